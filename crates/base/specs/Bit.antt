@@ -1,0 +1,44 @@
+-- Bits, lists of bits, and what is said of all indices below a number. Assumes nothing.
+use mathlib.Core.Bool.{Bool, true, false, not, _&&_}
+use mathlib.Core.List.{List, [], _∷_}
+use Prim.Native.Nat.{ℕ, zero, suc}
+use lib.ListN.{getD}
+
+infixl 33 _⊕_
+-- The sum of two bits, modulo 2.
+abbrev pub _⊕_ : Bool → Bool → Bool
+true ⊕ b = not b
+false ⊕ b = b
+
+-- Bit i of a list, 0 past its end.
+abbrev pub bit : List Bool → ℕ → Bool
+bit u i = getD u i false
+
+-- f 0 + f 1 + .. + f (n - 1), modulo 2.
+unfoldable pub parity : ℕ → (ℕ → Bool) → Bool
+parity zero f = false
+parity (suc n) f = f zero ⊕ parity n (λ i. f (suc i))
+
+-- The list f 0, f 1, .., f (n - 1).
+unfoldable pub tabulate {ℓ} : {X : Type ℓ} → ℕ → (ℕ → X) → List X
+tabulate zero f = []
+tabulate (suc n) f = f zero ∷ tabulate n (λ i. f (suc i))
+
+-- Whether f i holds of every i below n.
+unfoldable pub every : ℕ → (ℕ → Bool) → Bool
+every zero f = true
+every (suc n) f = f zero && every n (λ i. f (suc i))
+
+-- Whether two lists of bits are the same.
+unfoldable pub agree : List Bool → List Bool → Bool
+agree [] [] = true
+agree [] (b ∷ v) = false
+agree (a ∷ u) [] = false
+agree (a ∷ u) (b ∷ v) = not (a ⊕ b) && agree u v
+
+-- The first list of n bits, in rising order, of which f holds; n ones where there is none.
+unfoldable pub the : ℕ → (List Bool → Bool) → List Bool
+the zero f = []
+the (suc n) f =
+    let t = the n (λ u. f (false ∷ u)) in
+    elim (f (false ∷ t)) [ true ↦ false ∷ t | false ↦ true ∷ the n (λ u. f (true ∷ u)) ]

@@ -1,0 +1,339 @@
+-- Laws of packed bits, for every width. Assumes nothing.
+use mathlib.Core.Path.{_≡_, refl, sym, ap, ap₂, _∙_}
+use mathlib.Core.Bool.{Bool, true, false}
+use mathlib.Core.List.{List, [], _∷_, _++_, append-assoc, append-nil}
+use Prim.Native.Nat.{ℕ, zero, suc, _+_, _-_, _*_, _/_, _%_, _^_, _≤_, _<_, max}
+use native.Mathlib.Nat.{mod-lt, mod-one, mod-self, mod-eq-of-lt, div-self, div-eq-of-lt, zero-div, mul-add-mod-self-right, max-eq-right}
+use native.Mathlib.Nat.{zero-add, suc-add, suc-sub-suc, mul-suc, add-comm, zero-mul, one-mul, two-pow-succ, le-of-suc-le-suc, div-div-eq-div-mul}
+use native.Mathlib.Numerals.{one-add, add-one}
+use native.Mathlib.Omega.{arith}
+use lib.Bits.{bitXor, bitOr, differ, xor-shr, xor-step, or-shr, or-step, or-mod, or-zero-r}
+use lib.Dec.{eqb, lit<}
+use lib.ListN.{length, getD, set, take, drop, replicate, length-append, replicate-append-replicate, List·getD-append}
+use lib.Pow.{pow-pos, pow-lt, pow-add, high, mod-pow-add, mod-mod-pow, field, shl-exact}
+use lib.Seq.{getD-append-add, set-append-left, set-at, drop-at, drop-nil}
+use Rattle.base.specs.Bit.{bit, _⊕_}
+use Rattle.bits.specs.Packed.{odd, bits, digit, number, unpack, pad, pack}
+
+-- ---- the bits of a number
+
+-- There are as many bits as the width says.
+pub length-bits : (n x : ℕ) → length (bits n x) ≡ n
+unfolding bits
+length-bits zero x = refl
+length-bits (suc n) x = ap suc (length-bits n x)
+
+-- Bit i, by a shift.
+pub bits-at : (n x i : ℕ) → i < n → bit (bits n x) i ≡ odd (x / 2 ^ (n - suc i))
+unfolding bits
+bits-at zero x i h = absurd (omega arith)
+bits-at (suc n) x zero h = let e : n ≡ suc n - 1 = omega arith in ap (λ k. odd (x / 2 ^ k)) e
+bits-at (suc n) x (suc i) h =
+    let e : n - suc i ≡ suc n - suc (suc i) = omega arith in
+    bits-at n x i (omega arith) ∙ ap (λ k. odd (x / 2 ^ k)) e
+
+-- The same at width m + 1, with the shift that the code makes.
+pub bits-shift : (m x i : ℕ) → i ≤ m → bit (bits (suc m) x) i ≡ odd (x / 2 ^ (m - i))
+bits-shift m x i h = bits-at (suc m) x i (omega arith) ∙ ap (λ k. odd (x / 2 ^ k)) (suc-sub-suc m i)
+
+-- Two digits differ where the sum of their bits is 1.
+odd-differ : (a b : ℕ) → a < 2 → b < 2 → eqb (differ a b % 2) 1 ≡ eqb a 1 ⊕ eqb b 1
+odd-differ zero zero h g = refl
+odd-differ zero (suc zero) h g = refl
+odd-differ zero (suc (suc b)) h g = absurd (omega arith)
+odd-differ (suc zero) zero h g = refl
+odd-differ (suc zero) (suc zero) h g = refl
+odd-differ (suc zero) (suc (suc b)) h g = absurd (omega arith)
+odd-differ (suc (suc a)) b h g = absurd (omega arith)
+
+-- The lowest bit of a sum without carries.
+odd-xor : (a b : ℕ) → odd (bitXor a b) ≡ odd a ⊕ odd b
+odd-xor a b =
+    ap odd (xor-step a b)
+    ∙ ap (λ x. eqb x 1) (mul-add-mod-self-right (bitXor (a / 2) (b / 2)) 2 (differ (a % 2) (b % 2)))
+    ∙ odd-differ (a % 2) (b % 2) (omega arith) (omega arith)
+
+-- The bits of `a ^ b` are the sums of the bits of a and b.
+pub xor-at : (n a b i : ℕ) → bit (bits n (bitXor a b)) i ≡ bit (bits n a) i ⊕ bit (bits n b) i
+unfolding bits
+xor-at zero a b i = refl
+xor-at (suc n) a b zero = ap odd (xor-shr a b n) ∙ odd-xor (a / 2 ^ n) (b / 2 ^ n)
+xor-at (suc n) a b (suc i) = xor-at n a b i
+
+-- The bits of 0 are 0.
+pub bits-zero : (n : ℕ) → bits n 0 ≡ replicate n false
+unfolding bits
+bits-zero zero = refl
+bits-zero (suc n) = ap₂ _∷_ (ap odd (zero-div (2 ^ n))) (bits-zero n)
+
+-- Bit i of 0 is 0.
+pub zero-at : (n i : ℕ) → bit (bits n 0) i ≡ false
+unfolding bits
+zero-at zero i = refl
+zero-at (suc n) zero = ap odd (zero-div (2 ^ n))
+zero-at (suc n) (suc i) = zero-at n i
+
+-- What stands above the lowest j + n bits does not count.
+pub bits-low : (n j x : ℕ) → bits n (x % 2 ^ (j + n)) ≡ bits n x
+unfolding bits
+bits-low zero j x = refl
+bits-low (suc n) j x =
+    let e : j + suc n ≡ suc j + n = omega arith in
+    rw e
+    (ap₂ _∷_
+    (ap odd (field x (suc j) n ∙ ap (λ k. x / 2 ^ n % 2 ^ k) (sym (add-one j))) ∙ ap (λ y. eqb y 1) (mod-mod-pow (x / 2 ^ n) j 1))
+    (bits-low n (suc j) x))
+
+-- What stands above the lowest n bits does not count.
+pub bits-mod : (n x : ℕ) → bits n (x % 2 ^ n) ≡ bits n x
+bits-mod n x = ap (λ k. bits n (x % 2 ^ k)) (sym (zero-add n)) ∙ bits-low n 0 x
+
+-- The high bits and the low bits, apart.
+pub bits-split : (j k x : ℕ) → bits (j + k) x ≡ bits j (x / 2 ^ k) ++ bits k x
+unfolding bits
+bits-split zero k x = ap (λ n. bits n x) (zero-add k)
+bits-split (suc j) k x =
+    rw suc-add
+    (ap₂ _∷_
+    (ap (λ y. odd (x / y)) (ap (λ n. 2 ^ n) (add-comm j k) ∙ pow-add 2 k j) ∙ ap odd (sym (div-div-eq-div-mul x (2 ^ k) (2 ^ j))))
+    (bits-split j k x))
+
+-- ---- one bit set
+
+-- A number with its lowest bit set is odd.
+odd-or : (x : ℕ) → odd (bitOr x 1) ≡ true
+odd-or x =
+    ap odd (or-step x 1)
+    ∙ ap (λ y. eqb y 1) (mul-add-mod-self-right (bitOr (x / 2) (1 / 2)) 2 (max (x % 2) 1))
+    ∙ ap odd (max-eq-right (le-of-suc-le-suc (mod-lt x (lit< tt))))
+
+-- A bit is set that has i bits above it and k below.
+or-between : (i k x : ℕ) → bits (i + suc k) (bitOr x (2 ^ k)) ≡ set (bits (i + suc k) x) i true
+unfolding bits
+or-between i k x =
+    let y = bitOr x (2 ^ k) in
+    let above : y / 2 ^ suc k ≡ x / 2 ^ suc k =
+    or-shr x (2 ^ k) (suc k) ∙ ap (bitOr (x / 2 ^ suc k)) (div-eq-of-lt (pow-lt (omega arith))) ∙ or-zero-r (x / 2 ^ suc k) in
+    let here : odd (y / 2 ^ k) ≡ true =
+    ap odd (or-shr x (2 ^ k) k ∙ ap (bitOr (x / 2 ^ k)) (div-self (pow-pos k))) ∙ odd-or (x / 2 ^ k) in
+    let below : bits k y ≡ bits k x =
+    sym (bits-mod k y)
+    ∙ ap (bits k) (or-mod x (2 ^ k) k ∙ ap (bitOr (x % 2 ^ k)) (mod-self (2 ^ k)) ∙ or-zero-r (x % 2 ^ k))
+    ∙ bits-mod k x in
+    bits-split i (suc k) y
+    ∙ ap₂ _++_ (ap (bits i) above) (ap₂ _∷_ here below)
+    ∙ sym (set-at (bits i (x / 2 ^ suc k)) (odd (x / 2 ^ k)) (bits k x) true i (length-bits i (x / 2 ^ suc k)))
+    ∙ ap (λ l. set l i true) (sym (bits-split i (suc k) x))
+
+-- Bit i of m + 1, set as the code sets it: by `|` with a shifted 1.
+pub bits-or : (m x i : ℕ) → i ≤ m → bits (suc m) (bitOr x (1 * 2 ^ (m - i) % 2 ^ suc m)) ≡ set (bits (suc m) x) i true
+bits-or m x i h =
+    let e : suc m ≡ i + suc (m - i) = omega arith in
+    ap (λ b. bits (suc m) (bitOr x b)) (shl-exact {a = 1} 1 (m - i) (suc m) (lit< tt) (omega arith) ∙ one-mul (2 ^ (m - i)))
+    ∙ ap (λ n. bits n (bitOr x (2 ^ (m - i)))) e
+    ∙ or-between i (m - i) x
+    ∙ ap (λ n. set (bits n x) i true) (sym e)
+
+-- ---- the number of some bits
+
+-- The number is below the power of the width.
+pub number-lt : (l : List Bool) → number l < 2 ^ length l
+unfolding number
+number-lt [] = omega arith
+number-lt (false ∷ l) = let h = number-lt l in rw (two-pow-succ (length l)) (omega (arith, zero-mul (2 ^ length l)))
+number-lt (true ∷ l) = let h = number-lt l in rw (two-pow-succ (length l)) (omega (arith, one-mul (2 ^ length l)))
+
+-- A digit is the number of its bit.
+digit-small : (a : ℕ) → a < 2 → digit (eqb a 1) ≡ a
+digit-small zero h = refl
+digit-small (suc zero) h = refl
+digit-small (suc (suc a)) h = absurd (omega arith)
+
+-- A bit as a number is the remainder.
+pub digit-odd : (x : ℕ) → digit (odd x) ≡ x % 2
+digit-odd x = digit-small (x % 2) (omega arith)
+
+-- The number of a bit is odd where the bit is 1.
+odd-digit : (b : Bool) → odd (digit b) ≡ b
+odd-digit false = refl
+odd-digit true = refl
+
+-- A number's bits make the number, but for what stands above them.
+pub number-bits : (n x : ℕ) → number (bits n x) ≡ x % 2 ^ n
+unfolding number bits
+number-bits zero x = sym (mod-one x)
+number-bits (suc n) x =
+    ap₂ (λ a k. a * 2 ^ k + number (bits n x)) (digit-odd (x / 2 ^ n)) (length-bits n x)
+    ∙ ap (λ y. (x / 2 ^ n % 2) * 2 ^ n + y) (number-bits n x)
+    ∙ sym (ap (λ k. x % 2 ^ k) (sym (one-add n)) ∙ mod-pow-add x 1 n)
+
+-- A number that fits comes back from its bits.
+pub number-bits-fit : (n x : ℕ) → x < 2 ^ n → number (bits n x) ≡ x
+number-bits-fit n x h = number-bits n x ∙ mod-eq-of-lt h
+
+-- The bits of the number that bits make are those.
+pub bits-number : (l : List Bool) → bits (length l) (number l) ≡ l
+unfolding bits number
+bits-number [] = refl
+bits-number (b ∷ l) =
+    let n = length l in
+    let x = digit b * 2 ^ n + number l in
+    ap₂ _∷_
+    (ap odd (high (digit b) n (number-lt l)) ∙ odd-digit b)
+    (sym (bits-mod n x)
+    ∙ ap (bits n) (mul-add-mod-self-right (digit b) (2 ^ n) (number l) ∙ mod-eq-of-lt (number-lt l))
+    ∙ bits-number l)
+
+-- ---- the bits of bytes
+
+-- There are eight bits to a byte.
+pub length-unpack : (s : List ℕ) → length (unpack s) ≡ 8 * length s
+unfolding unpack
+length-unpack [] = refl
+length-unpack (x ∷ s) = rw (length-append, length-bits, mul-suc) (omega (arith, length-unpack s))
+
+-- Bytes after bytes are bits after bits.
+pub unpack-append : (s t : List ℕ) → unpack (s ++ t) ≡ unpack s ++ unpack t
+unfolding unpack
+unpack-append [] t = refl
+unpack-append (x ∷ s) t = ap (λ l. bits 8 x ++ l) (unpack-append s t) ∙ sym (append-assoc (bits 8 x) (unpack s) (unpack t))
+
+-- Bit r of byte q stands at 8 q + r, and past the end all is 0.
+byte-at : (s : List ℕ) (q r : ℕ) → r < 8 → bit (unpack s) (8 * q + r) ≡ bit (bits 8 (getD s q 0)) r
+unfolding unpack
+byte-at [] q r h = sym (zero-at 8 r)
+byte-at (x ∷ s) zero r h =
+    ap (bit (bits 8 x ++ unpack s)) (zero-add r) ∙ List·getD-append (bits 8 x) (unpack s) false r (rw length-bits h)
+byte-at (x ∷ s) (suc q) r h =
+    let e : 8 * suc q + r ≡ length (bits 8 x) + (8 * q + r) = omega (arith, length-bits 8 x) in
+    ap (bit (bits 8 x ++ unpack s)) e ∙ getD-append-add (bits 8 x) (unpack s) (8 * q + r) false ∙ byte-at s q r h
+
+-- Bit i is read from the byte that holds it.
+pub unpack-at : (s : List ℕ) (i : ℕ) → bit (unpack s) i ≡ bit (bits 8 (getD s (i / 8) 0)) (i % 8)
+unpack-at s i =
+    let e : i ≡ 8 * (i / 8) + i % 8 = omega arith in
+    ap (bit (unpack s)) e ∙ byte-at s (i / 8) (i % 8) (omega arith)
+
+-- A bit of the second list is set.
+set-append-add : (a b : List Bool) (k : ℕ) (v : Bool) → set (a ++ b) (length a + k) v ≡ a ++ set b k v
+set-append-add [] b k v = rw zero-add
+set-append-add (c ∷ a) b k v = rw suc-add (ap (λ l. c ∷ l) (set-append-add a b k v))
+
+-- Byte q is stored with its bit r changed.
+byte-set : (s : List ℕ) (q r n : ℕ) (v : Bool) → r < 8 → bits 8 n ≡ set (bits 8 (getD s q 0)) r v
+    → unpack (set s q n) ≡ set (unpack s) (8 * q + r) v
+unfolding unpack
+byte-set [] q r n v h e = refl
+byte-set (x ∷ s) zero r n v h e =
+    ap (λ l. l ++ unpack s) e
+    ∙ sym (ap (λ k. set (bits 8 x ++ unpack s) k v) (zero-add r) ∙ set-append-left (bits 8 x) (unpack s) r v (rw length-bits h))
+byte-set (x ∷ s) (suc q) r n v h e =
+    let f : 8 * suc q + r ≡ length (bits 8 x) + (8 * q + r) = omega (arith, length-bits 8 x) in
+    ap (λ l. bits 8 x ++ l) (byte-set s q r n v h e)
+    ∙ sym (ap (λ k. set (bits 8 x ++ unpack s) k v) f ∙ set-append-add (bits 8 x) (unpack s) (8 * q + r) v)
+
+-- A byte that is changed in one bit changes that bit of the list.
+pub unpack-set : (s : List ℕ) (i n : ℕ) (v : Bool) → bits 8 n ≡ set (bits 8 (getD s (i / 8) 0)) (i % 8) v
+    → unpack (set s (i / 8) n) ≡ set (unpack s) i v
+unpack-set s i n v e =
+    let f : 8 * (i / 8) + i % 8 ≡ i = omega arith in
+    byte-set s (i / 8) (i % 8) n v (omega arith) e ∙ ap (λ k. set (unpack s) k v) f
+
+-- Cleared bytes hold cleared bits.
+pub unpack-zero : (n : ℕ) → unpack (replicate n 0) ≡ replicate (8 * n) false
+unfolding unpack
+unpack-zero zero = refl
+unpack-zero (suc n) =
+    let e : 8 * suc n ≡ 8 + 8 * n = omega arith in
+    ap₂ _++_ (bits-zero 8) (unpack-zero n) ∙ replicate-append-replicate 8 (8 * n) false ∙ ap (λ k. replicate k false) (sym e)
+
+-- ---- the first n bits
+
+-- There are n of them.
+pub length-pad : (n : ℕ) (l : List Bool) → length (pad n l) ≡ n
+unfolding pad
+length-pad zero l = refl
+length-pad (suc n) [] = ap suc (length-pad n [])
+length-pad (suc n) (b ∷ l) = ap suc (length-pad n l)
+
+-- They are those of the list.
+pub pad-at : (n : ℕ) (l : List Bool) (i : ℕ) → i < n → bit (pad n l) i ≡ bit l i
+unfolding pad
+pad-at zero l i h = absurd (omega arith)
+pad-at (suc n) [] zero h = refl
+pad-at (suc n) [] (suc i) h = pad-at n [] i (omega arith)
+pad-at (suc n) (b ∷ l) zero h = refl
+pad-at (suc n) (b ∷ l) (suc i) h = pad-at n l i (omega arith)
+
+-- The first part of two, where it has n bits.
+pub pad-front : (n : ℕ) (a b : List Bool) → length a ≡ n → pad n (a ++ b) ≡ a
+unfolding pad
+pad-front zero [] b e = refl
+pad-front zero (c ∷ a) b e = absurd (omega arith)
+pad-front (suc n) [] b e = absurd (omega arith)
+pad-front (suc n) (c ∷ a) b e = ap (λ l. c ∷ l) (pad-front n a b (omega arith))
+
+-- A list of n bits is itself.
+pub pad-whole : (n : ℕ) (l : List Bool) → length l ≡ n → pad n l ≡ l
+pad-whole n l e = ap (pad n) (sym (append-nil l)) ∙ pad-front n l [] e
+
+-- The first bits, and those after them.
+pub pad-add : (j k : ℕ) (l : List Bool) → pad (j + k) l ≡ pad j l ++ pad k (drop j l)
+unfolding pad
+pad-add zero k l = ap (λ n. pad n l) (zero-add k)
+pad-add (suc j) k [] = rw suc-add (ap (λ t. false ∷ t) (pad-add j k [] ∙ ap (λ t. pad j [] ++ pad k t) (drop-nil j)))
+pad-add (suc j) k (b ∷ l) = rw suc-add (ap (λ t. b ∷ t) (pad-add j k l))
+
+-- ---- bytes from bits
+
+-- There are as many bytes as asked for.
+pub length-pack : (n : ℕ) (l : List Bool) → length (pack n l) ≡ n
+unfolding pack
+length-pack zero l = refl
+length-pack (suc n) l = ap suc (length-pack n (drop 8 l))
+
+-- Each is a byte.
+pub pack-lt : (n : ℕ) (l : List Bool) (i : ℕ) → getD (pack n l) i 0 < 256
+unfolding pack
+pack-lt zero l i = lit< tt
+pack-lt (suc n) l zero = rw length-pad at (number-lt (pad 8 l))
+pack-lt (suc n) l (suc i) = pack-lt n (drop 8 l) i
+
+-- Bytes are what packing their bits gives.
+pub pack-unpack : (s : List ℕ) → ((i : ℕ) → i < length s → getD s i 0 < 256) → pack (length s) (unpack s) ≡ s
+unfolding pack unpack
+pack-unpack [] h = refl
+pack-unpack (x ∷ s) h =
+    ap₂ _∷_
+    (ap number (pad-front 8 (bits 8 x) (unpack s) (length-bits 8 x)) ∙ number-bits-fit 8 x (h 0 (omega arith)))
+    (ap (pack (length s)) (drop-at (bits 8 x) (unpack s) 8 (length-bits 8 x)) ∙ pack-unpack s (λ i l. h (suc i) (omega arith)))
+
+-- The bits of packed bits are the first of them.
+pub unpack-pack-pad : (n : ℕ) (l : List Bool) → unpack (pack n l) ≡ pad (8 * n) l
+unfolding pack unpack pad
+unpack-pack-pad zero l = refl
+unpack-pack-pad (suc n) l =
+    let e : 8 * suc n ≡ 8 + 8 * n = omega arith in
+    ap₂ _++_
+    (ap (λ k. bits k (number (pad 8 l))) (sym (length-pad 8 l)) ∙ bits-number (pad 8 l))
+    (unpack-pack-pad n (drop 8 l))
+    ∙ sym (ap (λ k. pad k l) e ∙ pad-add 8 (8 * n) l)
+
+-- Bits that fill the bytes come back from them.
+pub unpack-pack : (n : ℕ) (l : List Bool) → length l ≡ 8 * n → unpack (pack n l) ≡ l
+unpack-pack n l e = unpack-pack-pad n l ∙ pad-whole (8 * n) l e
+
+-- Bytes with given bits are those bits, packed.
+pub packed : (s : List ℕ) (n : ℕ) (l : List Bool) → length s ≡ n → ((i : ℕ) → i < length s → getD s i 0 < 256) → unpack s ≡ l → pack n l ≡ s
+packed s n l e h u = rw (← e, ← u) (pack-unpack s h)
+
+-- To fill the bits up first changes nothing.
+pub pack-pad : (n : ℕ) (l : List Bool) → pack n (pad (8 * n) l) ≡ pack n l
+pack-pad n l = packed (pack n l) n (pad (8 * n) l) (length-pack n l) (λ i h. pack-lt n l i) (unpack-pack-pad n l)
+
+-- The first bytes are the first bits, packed.
+pub take-pack : (n m : ℕ) (l : List Bool) → n ≤ m → take n (pack m l) ≡ pack n l
+unfolding pack
+take-pack zero m l h = refl
+take-pack (suc n) zero l h = absurd (omega arith)
+take-pack (suc n) (suc m) l h = ap (λ t. number (pad 8 l) ∷ t) (take-pack n m (drop 8 l) (omega arith))

@@ -1,0 +1,305 @@
+-- Laws of counting marks, spreading a payload over the marked phases and gathering it again. Assumes nothing.
+use mathlib.Core.Path.{_≡_, refl, sym, ap, ap₂, _∙_}
+use mathlib.Core.Bool.{Bool, true, false, _&&_, false≢true}
+use mathlib.Core.List.{List, [], _∷_, _++_}
+use mathlib.Core.Logic.{_⊎_, inl, inr}
+use Prim.Native.Nat.{ℕ, zero, suc, _+_, _*_, _/_, _%_, _^_, _≤_, _<_}
+use native.Mathlib.Nat.{add-zero, mod-lt, le-antisymm, lt-of-not-le, le-of-suc-le-suc}
+use native.Mathlib.Numerals.{add-one, one-add}
+use native.Mathlib.Omega.{arith}
+use lib.Count
+use lib.Count.{ones-cat}
+use lib.ListN.{length, getD, set, take, drop, replicate}
+use lib.Pow.{pow-pos, split, shr-lt}
+use lib.Seq.{drop-cons}
+use Rattle.base.specs.Bit.{bit}
+use Rattle.bits.specs.Packed.{odd, bits, digit, unpack, pad, pack}
+use Rattle.bits.specs.Payload.{ones, spread, gather, frozenOne}
+use Rattle.bits.proofs.Packed.{bits-mod, length-unpack, unpack-zero, unpack-pack, packed}
+
+-- ---- counting
+
+-- A bit more counts as its number.
+pub ones-cons : (b : Bool) (l : List Bool) → ones (b ∷ l) ≡ digit b + ones l
+unfolding ones
+ones-cons true l = omega arith
+ones-cons false l = omega arith
+
+-- The counts of two parts add up.
+pub ones-append : (l m : List Bool) → ones (l ++ m) ≡ ones l + ones m
+unfolding ones
+ones-append [] m = omega arith
+ones-append (true ∷ l) m = omega (arith, ones-append l m)
+ones-append (false ∷ l) m = ones-append l m
+
+-- No more bits are set than there are.
+pub ones-le : (l : List Bool) → ones l ≤ length l
+unfolding ones
+ones-le [] = omega arith
+ones-le (true ∷ l) = omega (arith, ones-le l)
+ones-le (false ∷ l) = omega (arith, ones-le l)
+
+-- The machine's count of one digit.
+count-digit : (a : ℕ) → a < 2 → lib.Count.ones a ≡ digit (odd a)
+unfolding lib.Count.ones
+count-digit zero h = refl
+count-digit (suc zero) h = refl
+count-digit (suc (suc a)) h = absurd (omega arith)
+
+-- The machine's count is the count of the bits, for every width.
+pub count-bits : (n x : ℕ) → x < 2 ^ n → lib.Count.ones x ≡ ones (bits n x)
+unfolding bits ones lib.Count.ones
+count-bits zero x h = let e : x ≡ 0 = omega arith in ap lib.Count.ones e
+count-bits (suc n) x h =
+    ap lib.Count.ones (sym (split x n))
+    ∙ ones-cat n (x / 2 ^ n) (x % 2 ^ n) (mod-lt x (pow-pos n))
+    ∙ ap₂ _+_
+    (count-digit (x / 2 ^ n) (shr-lt 1 n (rw one-add h)))
+    (count-bits n (x % 2 ^ n) (mod-lt x (pow-pos n)) ∙ ap ones (bits-mod n x))
+    ∙ sym (ones-cons (odd (x / 2 ^ n)) (bits n x))
+
+-- The bytes that are left to count are one byte and those after it.
+pub ones-next : (s : List ℕ) (i : ℕ) → i < length s → ones (unpack (drop i s)) ≡ ones (bits 8 (getD s i 0)) + ones (unpack (drop (i + 1) s))
+unfolding unpack
+ones-next s i h =
+    rw add-one (ap (λ t. ones (unpack t)) (drop-cons s i 0 h) ∙ ones-append (bits 8 (getD s i 0)) (unpack (drop (suc i) s)))
+
+-- ---- spreading and gathering
+
+-- There is a symbol for each phase.
+pub length-spread : (m p : List Bool) → length (spread m p) ≡ length m
+unfolding spread
+length-spread [] p = refl
+length-spread (false ∷ m) p = ap suc (length-spread m p)
+length-spread (true ∷ m) [] = ap suc (length-spread m [])
+length-spread (true ∷ m) (b ∷ p) = ap suc (length-spread m p)
+
+-- There is a payload bit for each mark.
+pub length-gather : (m u : List Bool) → length (gather m u) ≡ ones m
+unfolding gather ones
+length-gather [] u = refl
+length-gather (false ∷ m) [] = length-gather m []
+length-gather (false ∷ m) (b ∷ u) = length-gather m u
+length-gather (true ∷ m) [] = ap suc (length-gather m [])
+length-gather (true ∷ m) (b ∷ u) = ap suc (length-gather m u)
+
+-- What was spread is gathered again.
+pub gather-spread : (m p : List Bool) → ones m ≡ length p → gather m (spread m p) ≡ p
+unfolding spread gather ones
+gather-spread [] [] e = refl
+gather-spread [] (b ∷ p) e = absurd (omega arith)
+gather-spread (false ∷ m) p e = gather-spread m p e
+gather-spread (true ∷ m) [] e = absurd (omega arith)
+gather-spread (true ∷ m) (b ∷ p) e = ap (λ l. b ∷ l) (gather-spread m p (omega arith))
+
+-- Symbols with no 1 at an unmarked phase are those of the payload gathered from them.
+pub spread-gather : (m u : List Bool) → length u ≡ length m → frozenOne m u ≡ length m → spread m (gather m u) ≡ u
+unfolding spread gather frozenOne
+spread-gather [] [] e f = refl
+spread-gather [] (b ∷ u) e f = absurd (omega arith)
+spread-gather (false ∷ m) [] e f = absurd (omega arith)
+spread-gather (false ∷ m) (true ∷ u) e f = absurd (omega arith)
+spread-gather (false ∷ m) (false ∷ u) e f = ap (λ l. false ∷ l) (spread-gather m u (omega arith) (omega arith))
+spread-gather (true ∷ m) [] e f = absurd (omega arith)
+spread-gather (true ∷ m) (b ∷ u) e f = ap (λ l. b ∷ l) (spread-gather m u (omega arith) (omega arith))
+
+-- Spreading leaves no 1 at an unmarked phase.
+pub frozen-spread : (m p : List Bool) → frozenOne m (spread m p) ≡ length m
+unfolding spread frozenOne
+frozen-spread [] p = refl
+frozen-spread (false ∷ m) p = ap suc (frozen-spread m p)
+frozen-spread (true ∷ m) [] = ap suc (frozen-spread m [])
+frozen-spread (true ∷ m) (b ∷ p) = ap suc (frozen-spread m p)
+
+-- ---- the lowest unmarked phase with symbol 1
+
+-- It is no more than the number of phases.
+pub frozen-le : (m u : List Bool) → frozenOne m u ≤ length m
+unfolding frozenOne
+frozen-le [] u = omega arith
+frozen-le (true ∷ m) [] = omega (arith, frozen-le m [])
+frozen-le (true ∷ m) (b ∷ u) = omega (arith, frozen-le m u)
+frozen-le (false ∷ m) [] = omega (arith, frozen-le m [])
+frozen-le (false ∷ m) (true ∷ u) = omega arith
+frozen-le (false ∷ m) (false ∷ u) = omega (arith, frozen-le m u)
+
+-- Each phase below it is marked or has symbol 0.
+pub frozen-lowest : (m u : List Bool) (i : ℕ) → i < frozenOne m u → (bit m i ≡ true) ⊎ (bit u i ≡ false)
+unfolding frozenOne
+frozen-lowest [] u i h = absurd (omega arith)
+frozen-lowest (true ∷ m) u zero h = inl refl
+frozen-lowest (false ∷ m) [] zero h = inr refl
+frozen-lowest (false ∷ m) (true ∷ u) i h = absurd (omega arith)
+frozen-lowest (false ∷ m) (false ∷ u) zero h = inr refl
+frozen-lowest (true ∷ m) [] (suc i) h = frozen-lowest m [] i (omega arith)
+frozen-lowest (true ∷ m) (b ∷ u) (suc i) h = frozen-lowest m u i (omega arith)
+frozen-lowest (false ∷ m) [] (suc i) h = frozen-lowest m [] i (omega arith)
+frozen-lowest (false ∷ m) (false ∷ u) (suc i) h = frozen-lowest m u i (omega arith)
+
+-- Where it is a phase, that phase is unmarked and its symbol is 1.
+pub frozen-found : (m u : List Bool) → frozenOne m u < length m → (bit m (frozenOne m u) ≡ false) × (bit u (frozenOne m u) ≡ true)
+unfolding frozenOne
+frozen-found [] u h = absurd (omega arith)
+frozen-found (true ∷ m) [] h = frozen-found m [] (omega arith)
+frozen-found (true ∷ m) (b ∷ u) h = frozen-found m u (omega arith)
+frozen-found (false ∷ m) [] h = frozen-found m [] (omega arith)
+frozen-found (false ∷ m) (true ∷ u) h = (refl, refl)
+frozen-found (false ∷ m) (false ∷ u) h = frozen-found m u (omega arith)
+
+-- The two do not hold of one phase.
+clash : (a b : Bool) → (a ≡ false) × (b ≡ true) → (a ≡ true) ⊎ (b ≡ false) → ⊥
+clash a b f (inl e) = false≢true (sym (f .0) ∙ e)
+clash a b f (inr e) = false≢true (sym e ∙ f .1)
+
+-- No other number has both properties.
+pub frozen-is : (m u : List Bool) (i : ℕ) → i ≤ length m
+    → ((k : ℕ) → k < i → (bit m k ≡ true) ⊎ (bit u k ≡ false))
+    → (i < length m → (bit m i ≡ false) × (bit u i ≡ true))
+    → frozenOne m u ≡ i
+frozen-is m u i h below here =
+    let l = frozen-le m u in
+    le-antisymm
+    (le-of-suc-le-suc (lt-of-not-le (λ g. clash (bit m i) (bit u i) (here (omega arith)) (frozen-lowest m u i g))))
+    (le-of-suc-le-suc (lt-of-not-le (λ g. clash (bit m (frozenOne m u)) (bit u (frozenOne m u)) (frozen-found m u (omega arith)) (below (frozenOne m u) g))))
+
+-- ---- packed
+
+-- Packed symbols have no 1 at an unmarked phase.
+pub none-frozen : (mask payload : List ℕ)
+    → frozenOne (unpack mask) (unpack (pack (length mask) (spread (unpack mask) (unpack payload)))) ≡ 8 * length mask
+none-frozen mask payload =
+    let m = unpack mask in
+    let p = unpack payload in
+    ap (frozenOne m) (unpack-pack (length mask) (spread m p) (length-spread m p ∙ length-unpack mask))
+    ∙ frozen-spread m p
+    ∙ length-unpack mask
+
+-- A payload comes back from its packed symbols.
+pub payload-back : (mask payload : List ℕ) → ones (unpack mask) ≡ 8 * length payload → ((i : ℕ) → i < length payload → getD payload i 0 < 256)
+    → pack (length payload) (gather (unpack mask) (unpack (pack (length mask) (spread (unpack mask) (unpack payload))))) ≡ payload
+payload-back mask payload e h =
+    let m = unpack mask in
+    let p = unpack payload in
+    packed payload (length payload) _ refl h
+    (sym
+    (ap (gather m) (unpack-pack (length mask) (spread m p) (length-spread m p ∙ length-unpack mask))
+    ∙ gather-spread m p (e ∙ sym (length-unpack payload))))
+
+-- Symbols come back from the payload gathered from them.
+pub symbols-back : (mask symbols : List ℕ) → length symbols ≡ length mask → ((i : ℕ) → i < length symbols → getD symbols i 0 < 256)
+    → frozenOne (unpack mask) (unpack symbols) ≡ 8 * length mask
+    → pack (length mask) (spread (unpack mask) (gather (unpack mask) (unpack symbols))) ≡ symbols
+symbols-back mask symbols e h f =
+    let m = unpack mask in
+    let u = unpack symbols in
+    packed symbols (length mask) _ e h
+    (sym (spread-gather m u (length-unpack symbols ∙ ap (λ n. 8 * n) e ∙ sym (length-unpack mask)) (f ∙ sym (length-unpack mask))))
+
+-- ---- a turn of a loop over the phases
+
+-- The marks below phase i + 1, by the bit of phase i.
+ones-take : (m : List Bool) (i : ℕ) → i < length m → ones (take (suc i) m) ≡ ones (take i m) + digit (bit m i)
+unfolding ones
+ones-take [] i h = absurd (omega arith)
+ones-take (true ∷ m) zero h = refl
+ones-take (false ∷ m) zero h = refl
+ones-take (true ∷ m) (suc i) h = omega (arith, ones-take m i (omega arith))
+ones-take (false ∷ m) (suc i) h = ones-take m i (omega arith)
+
+-- A marked phase is one mark more.
+pub ones-marked : (m : List Bool) (i : ℕ) → i < length m → bit m i ≡ true → ones (take (i + 1) m) ≡ ones (take i m) + 1
+ones-marked m i h e = rw (add-one i) (ones-take m i h ∙ ap (λ b. ones (take i m) + digit b) e)
+
+-- An unmarked phase is no mark more.
+pub ones-unmarked : (m : List Bool) (i : ℕ) → i < length m → bit m i ≡ false → ones (take (i + 1) m) ≡ ones (take i m)
+ones-unmarked m i h e = rw (add-one i) (ones-take m i h ∙ ap (λ b. ones (take i m) + digit b) e ∙ add-zero (ones (take i m)))
+
+-- A marked phase has a payload bit of its own.
+pub ones-take-lt : (m : List Bool) (i : ℕ) → bit m i ≡ true → ones (take i m) < ones m
+unfolding ones
+ones-take-lt [] i e = absurd (false≢true e)
+ones-take-lt (true ∷ m) zero e = omega arith
+ones-take-lt (false ∷ m) zero e = absurd (false≢true e)
+ones-take-lt (true ∷ m) (suc i) e = omega (arith, ones-take-lt m i e)
+ones-take-lt (false ∷ m) (suc i) e = ones-take-lt m i e
+
+-- The symbol at a phase: the next payload bit where the phase is marked, and 0 elsewhere.
+pub spread-at : (m p : List Bool) (i : ℕ) → bit (spread m p) i ≡ bit m i && bit p (ones (take i m))
+unfolding spread ones
+spread-at [] p i = refl
+spread-at (false ∷ m) p zero = refl
+spread-at (false ∷ m) p (suc i) = spread-at m p i
+spread-at (true ∷ m) [] zero = refl
+spread-at (true ∷ m) [] (suc i) = spread-at m [] i
+spread-at (true ∷ m) (b ∷ p) zero = refl
+spread-at (true ∷ m) (b ∷ p) (suc i) = spread-at m p i
+
+-- The payload bit of a marked phase is its symbol.
+pub gather-at : (m u : List Bool) (i : ℕ) → bit m i ≡ true → bit (gather m u) (ones (take i m)) ≡ bit u i
+unfolding gather ones
+gather-at [] u i e = absurd (false≢true e)
+gather-at (false ∷ m) u zero e = absurd (false≢true e)
+gather-at (false ∷ m) [] (suc i) e = gather-at m [] i e
+gather-at (false ∷ m) (b ∷ u) (suc i) e = gather-at m u i e
+gather-at (true ∷ m) [] zero e = refl
+gather-at (true ∷ m) (b ∷ u) zero e = refl
+gather-at (true ∷ m) [] (suc i) e = gather-at m [] i e
+gather-at (true ∷ m) (b ∷ u) (suc i) e = gather-at m u i e
+
+-- The first i bits of a list, and 0 for the others.
+unfoldable pub upTo : ℕ → List Bool → List Bool
+upTo i [] = []
+upTo zero (b ∷ l) = false ∷ upTo zero l
+upTo (suc i) (b ∷ l) = b ∷ upTo i l
+
+-- With no bit yet, all are 0.
+up-to-zero : (l : List Bool) → upTo 0 l ≡ replicate (length l) false
+unfolding upTo
+up-to-zero [] = refl
+up-to-zero (b ∷ l) = ap (λ l. false ∷ l) (up-to-zero l)
+
+-- Cleared bytes are those with no bit yet.
+pub up-to-none : (n : ℕ) (l : List Bool) → length l ≡ 8 * n → unpack (replicate n 0) ≡ upTo 0 l
+up-to-none n l e = unpack-zero n ∙ sym (up-to-zero l ∙ ap (λ k. replicate k false) e)
+
+-- With as many bits as there are, it is the list.
+pub up-to-all : (i : ℕ) (l : List Bool) → length l ≤ i → upTo i l ≡ l
+unfolding upTo
+up-to-all i [] h = refl
+up-to-all zero (b ∷ l) h = absurd (omega arith)
+up-to-all (suc i) (b ∷ l) h = ap (λ l. b ∷ l) (up-to-all i l (omega arith))
+
+-- A next bit 1 is set.
+set-next : (i : ℕ) (l : List Bool) → bit l i ≡ true → set (upTo i l) i true ≡ upTo (suc i) l
+unfolding upTo
+set-next i [] e = refl
+set-next zero (b ∷ l) e = ap (λ b. b ∷ upTo 0 l) (sym e)
+set-next (suc i) (b ∷ l) e = ap (λ l. b ∷ l) (set-next i l e)
+
+-- A next bit 0 needs nothing.
+skip-next : (i : ℕ) (l : List Bool) → bit l i ≡ false → upTo i l ≡ upTo (suc i) l
+unfolding upTo
+skip-next i [] e = refl
+skip-next zero (b ∷ l) e = ap (λ b. b ∷ upTo 0 l) (sym e)
+skip-next (suc i) (b ∷ l) e = ap (λ l. b ∷ l) (skip-next i l e)
+
+-- A next bit 1 is set, at i + 1 as the code counts.
+pub up-to-set : (i : ℕ) (l : List Bool) → bit l i ≡ true → set (upTo i l) i true ≡ upTo (i + 1) l
+up-to-set i l e = rw add-one (set-next i l e)
+
+-- A next bit 0 needs nothing, at i + 1 as the code counts.
+pub up-to-skip : (i : ℕ) (l : List Bool) → bit l i ≡ false → upTo i l ≡ upTo (i + 1) l
+up-to-skip i l e = rw add-one (skip-next i l e)
+
+-- What fills an empty list up is 0.
+zeros-pad : (n : ℕ) → upTo 0 (pad n []) ≡ pad n []
+unfolding upTo pad
+zeros-pad zero = refl
+zeros-pad (suc n) = ap (λ l. false ∷ l) (zeros-pad n)
+
+-- The bits that fill a list up are 0 already.
+pub up-to-pad : (n : ℕ) (l : List Bool) → upTo (length l) (pad n l) ≡ pad n l
+unfolding upTo pad
+up-to-pad zero l = refl
+up-to-pad (suc n) [] = zeros-pad (suc n)
+up-to-pad (suc n) (b ∷ l) = ap (λ l. b ∷ l) (up-to-pad n l)

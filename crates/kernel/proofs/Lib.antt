@@ -1,0 +1,5 @@
+pub mod Solved
+pub mod Rows
+pub mod Table
+pub mod Checks
+pub mod Undoing

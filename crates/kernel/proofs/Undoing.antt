@@ -1,0 +1,71 @@
+-- Words and symbols of the three kernels belong together one to one, and the two jobs undo one another. Assumes nothing.
+use mathlib.Core.Path.{_≡_, refl, sym, ap, _∙_}
+use mathlib.Core.Bool.{Bool, true, false, _&&_}
+use mathlib.Core.List.{List, [], _∷_}
+use Prim.Native.Nat.{ℕ, _^_, _<_}
+use lib.ListN.{length}
+use Rattle.base.specs.Bit.{bit, parity, tabulate}
+use Rattle.base.proofs.List.{length-tabulate}
+use Rattle.bits.specs.Packed.{bits, number}
+use Rattle.bits.proofs.Packed.{length-bits, bits-number, number-lt, number-bits-fit}
+use Rattle.answer.specs.Verdict.{word, wordOf, settle}
+use Rattle.polar.specs.Relation.{symbols, tied, tiedWord}
+use Rattle.polar.proofs.Relation.{symbols-tied, tied-symbols, length-tied, one-v, word-symbols, untied-word, word-untied, length-untied}
+use Rattle.kernel.specs.Kernels.{F, relations, wordBit, symbolsOf}
+use Rattle.kernel.specs.Jobs.{isKernel, checks, encoded, undone, kernelEncode, kernelUndo}
+use Rattle.kernel.proofs.Solved.{solved, solution}
+
+module _ (k : ℕ) where
+  -- The word of the symbols that the relations give for v is vF.
+  pub word-of-v : (v : List Bool) → length v ≡ 16 → (j : ℕ) → wordBit k (symbols (relations k) v) j ≡ parity 16 (λ i. bit v i && F i j)
+  word-of-v = word-symbols 16 F F (relations k) (solved k) (solution k)
+
+  -- Every u belongs to some v,
+  pub some-v : (u : List Bool) → length u ≡ 16 → (v : List Bool) × (length v ≡ 16) × (symbols (relations k) v ≡ u)
+  some-v u e =
+      (tied (relations k) u, length-tied 16 F F (relations k) (solved k) (solution k) u, symbols-tied 16 F F (relations k) (solved k) (solution k) u e)
+
+  -- and to one only.
+  pub only-v : (v w : List Bool) → length v ≡ 16 → length w ≡ 16 → symbols (relations k) v ≡ symbols (relations k) w → v ≡ w
+  only-v = one-v 16 F F (relations k) (solved k) (solution k)
+
+  fits : (l : List Bool) → length l ≡ 16 → bits 16 (number l) ≡ l
+  fits l e = ap (λ n. bits n (number l)) (sym e) ∙ bits-number l
+
+  pub encoded-fits : (u : ℕ) → encoded k u < 2 ^ 16
+  unfolding encoded
+  encoded-fits u =
+      let l = tabulate 16 (wordBit k (bits 16 u)) in
+      rw (length-tabulate 16 (wordBit k (bits 16 u))) at (number-lt l)
+
+  pub undone-fits : (c : ℕ) → undone k c < 2 ^ 16
+  unfolding undone
+  undone-fits c =
+      rw (length-untied 16 F F (relations k) (solved k) (solution k) (bits 16 c)) at (number-lt (symbolsOf k (bits 16 c)))
+
+  -- Undo of encode, over all symbols,
+  pub undone-encoded : (u : ℕ) → u < 2 ^ 16 → undone k (encoded k u) ≡ u
+  unfolding encoded undone
+  undone-encoded u h =
+      let l = tabulate 16 (wordBit k (bits 16 u)) in
+      ap (λ c. number (symbolsOf k c)) (fits l (length-tabulate 16 _))
+      ∙ ap number (untied-word 16 F F (relations k) (solved k) (solution k) (bits 16 u) (length-bits 16 u))
+      ∙ number-bits-fit 16 u h
+
+  -- and encode of undo, over all words.
+  pub encoded-undone : (c : ℕ) → c < 2 ^ 16 → encoded k (undone k c) ≡ c
+  unfolding encoded undone
+  encoded-undone c h =
+      let u = symbolsOf k (bits 16 c) in
+      ap (λ l. number (tabulate 16 (wordBit k l))) (fits u (length-untied 16 F F (relations k) (solved k) (solution k) (bits 16 c)))
+      ∙ ap number (word-untied 16 F F (relations k) (solved k) (solution k) (bits 16 c) (length-bits 16 c))
+      ∙ number-bits-fit 16 c h
+
+  -- The same of the two jobs.
+  pub undo-encode : isKernel k ≡ true → (u : ℕ) → u < 2 ^ 16 → kernelUndo k (wordOf (kernelEncode k u)) ≡ word u
+  unfolding checks
+  undo-encode e u h = rw e (ap word (undone-encoded u h))
+
+  pub encode-undo : isKernel k ≡ true → (c : ℕ) → c < 2 ^ 16 → kernelEncode k (wordOf (kernelUndo k c)) ≡ word c
+  unfolding checks
+  encode-undo e c h = rw e (ap word (encoded-undone c h))

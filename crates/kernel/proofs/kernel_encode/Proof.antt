@@ -1,0 +1,36 @@
+-- `kernel::kernel_encode` meets its contract: the sum of the table's rows is the word. Assumes nothing.
+use mathlib.Core.Path.{ap, sym, _∙_}
+use borrow.Author.Needs.{needs}
+use borrow.Author.Tests.{not-true, not-false}
+use Rattle.answer.specs.Verdict.{word}
+use Rattle.kernel.specs.Jobs.{encoded}
+use Rattle.kernel.proofs.Table.{encoded-rows}
+use Rattle.kernel.proofs.Checks.{kernel-lt, kernel-refused, kernel-passed}
+use Rattle.kernel.proofs.kernel_encode.Statement.{statement}
+use Rattle.kernel.proofs.kernel_encode.Tie as tie
+
+is-kernel-requires : tie.Need-is-kernel-requires
+is-kernel-requires c κs = search needs
+
+returns : tie.Need-returns
+returns c = kernel-refused (c .before .before .args .kernel) _ (sym (c .before .is-kernel .ensures) ∙ not-true _ (c .if1 .taken))
+
+mul-rows : tie.Need-mul-rows
+mul-rows c = search needs
+
+array-copy-out-rows : tie.Need-array-copy-out-rows
+array-copy-out-rows c =
+    kernel-lt (c .before .before .args .kernel) (sym (c .before .is-kernel .ensures) ∙ not-false _ (c .if1 .left))
+
+row-sum-requires : tie.Need-row-sum-requires
+row-sum-requires c κs = search needs
+
+returns-2 : tie.Need-returns-2
+returns-2 c =
+    let a = c .before .before .before .before .args in
+    let e = sym (c .before .before .before .is-kernel .ensures) ∙ not-false _ (c .before .before .if1 .left) in
+    ap word (c .row-sum .ensures ∙ encoded-rows (a .kernel) (a .symbols) (kernel-lt (a .kernel) e))
+    ∙ kernel-passed (a .kernel) (word (encoded (a .kernel) (a .symbols))) e
+
+pub kernel-encode-spec : {M : Type 1} → statement M
+kernel-encode-spec = tie.close (tie.spec is-kernel-requires returns mul-rows array-copy-out-rows row-sum-requires returns-2)

@@ -1,0 +1,36 @@
+-- The three kernels, in the paper's words: a word is c = vF, and a kernel relates the symbols u to v. Assumes nothing.
+use mathlib.Core.Bool.{Bool, not, _||_}
+use mathlib.Core.List.{List, [], _∷_}
+use Prim.Native.Nat.{ℕ, zero, suc, _/_, _^_}
+use Rattle.base.specs.Bit.{every}
+use Rattle.bits.specs.Packed.{odd}
+use Rattle.polar.specs.Kernel.{Kernel}
+use Rattle.polar.specs.Relation.{Relation, tiedWord, untied, row}
+
+-- F[i][j] = 1 exactly if every set bit of j is set in i, for i and j of four bits.
+unfoldable pub F : ℕ → ℕ → Bool
+F i j = every 4 (λ b. not (odd (j / 2 ^ b)) || odd (i / 2 ^ b))
+
+-- The relations of kernels 0, 1 and 2: u0 to u15 as sums of v. (Every other number is refused before it is looked up.)
+unfoldable pub relations : ℕ → List Relation
+relations zero =
+    (0 ∷ []) ∷ (1 ∷ []) ∷ (2 ∷ []) ∷ (3 ∷ []) ∷ (4 ∷ []) ∷ (5 ∷ []) ∷ (6 ∷ []) ∷ (7 ∷ [])
+    ∷ (8 ∷ []) ∷ (9 ∷ []) ∷ (10 ∷ []) ∷ (11 ∷ []) ∷ (12 ∷ []) ∷ (13 ∷ []) ∷ (14 ∷ []) ∷ (15 ∷ []) ∷ []
+relations (suc zero) =
+    (0 ∷ []) ∷ (1 ∷ []) ∷ (2 ∷ []) ∷ (4 ∷ []) ∷ (8 ∷ []) ∷ (6 ∷ 9 ∷ []) ∷ (5 ∷ 6 ∷ 10 ∷ []) ∷ (3 ∷ [])
+    ∷ (12 ∷ []) ∷ (6 ∷ []) ∷ (10 ∷ []) ∷ (7 ∷ []) ∷ (11 ∷ []) ∷ (13 ∷ []) ∷ (14 ∷ []) ∷ (15 ∷ []) ∷ []
+relations (suc (suc k)) =
+    (0 ∷ []) ∷ (1 ∷ []) ∷ (2 ∷ []) ∷ (3 ∷ []) ∷ (4 ∷ []) ∷ (8 ∷ []) ∷ (6 ∷ 9 ∷ []) ∷ (5 ∷ 6 ∷ 10 ∷ [])
+    ∷ (6 ∷ []) ∷ (10 ∷ []) ∷ (7 ∷ []) ∷ (11 ∷ []) ∷ (12 ∷ []) ∷ (13 ∷ []) ∷ (14 ∷ []) ∷ (15 ∷ []) ∷ []
+
+-- Bit j of the word of the symbols u: of vF, for the v that the relations tie to u.
+abbrev pub wordBit : ℕ → List Bool → ℕ → Bool
+wordBit k u j = tiedWord F (relations k) u j
+
+-- The symbols of a word: those whose word it is.
+abbrev pub symbolsOf : ℕ → List Bool → List Bool
+symbolsOf k c = untied F (relations k) c
+
+-- The kernel as a matrix: row s is the word with only symbol s set.
+abbrev pub kernel : ℕ → Kernel
+kernel k = record { dim = 16; entry = row F (relations k) }

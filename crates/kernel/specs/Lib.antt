@@ -1,0 +1,3 @@
+pub mod Kernels
+pub mod Rows
+pub mod Jobs

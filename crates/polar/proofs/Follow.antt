@@ -1,0 +1,167 @@
+-- Laws of the scores, the penalties and the decoder's symbols of a whole list. Assumes nothing.
+use mathlib.Core.Path.{_≡_, refl, sym, ap, ap₂, _∙_}
+use mathlib.Core.Bool.{Bool, false}
+use mathlib.Core.List.{List, [], _∷_, _++_, append-assoc, append-nil}
+use Prim.Native.Nat.{ℕ, zero, suc, _+_, _*_, _≤_, _<_}
+use native.Mathlib.Nat.{add-zero, zero-add, suc-add, zero-mul, suc-mul}
+use native.Mathlib.Numerals.{add-one}
+use native.Mathlib.Decide.{decLt}
+use native.Mathlib.Omega.{arith}
+use lib.ListN.{length, getD, take, length-append}
+use lib.Seq.{take-suc, take-take, take-all, take-append-le, take-append-seam, getD-append-seam, getD-take, length-take-le}
+use lib.IntN.{ℤ}
+use Rattle.base.specs.Bit.{bit, tabulate}
+use Rattle.base.proofs.List.{length-tabulate, tabulate-at, tabulate-next}
+use Rattle.polar.specs.Code.{Code, Costs, pay, least, score, Onto}
+use Rattle.polar.specs.Follow.{scores, penalties, choose, decodeFrom, decode}
+use Rattle.polar.specs.Stages.{rows, staged, soft}
+use Rattle.polar.proofs.Values.{penalty-next, layer-scores}
+
+snoc-length : (q : List Bool) (b : Bool) → length (q ++ (b ∷ [])) ≡ suc (length q)
+snoc-length q b = length-append q (b ∷ []) ∙ add-one (length q)
+
+-- One more symbol: one more score,
+pub scores-next : (C : Code) (m : Costs) (q : List Bool) (b : Bool) → scores C m (q ++ (b ∷ [])) ≡ scores C m q ++ (score C m q ∷ [])
+unfolding scores
+scores-next C m q b =
+    ap (λ n. tabulate n (λ i. score C m (take i (q ++ (b ∷ []))))) (snoc-length q b)
+    ∙ tabulate-next (length q) (λ i. score C m (take i (q ++ (b ∷ [])))) (λ i. score C m (take i q))
+    (λ i l. ap (score C m) (take-append-le i q (b ∷ []) (omega arith)))
+    ∙ ap (λ s. tabulate (length q) (λ i. score C m (take i q)) ++ (score C m s ∷ [])) (take-append-seam q (b ∷ []))
+
+-- and one more penalty.
+pub penalties-next : (C : Code) (m : Costs) (q : List Bool) (b : Bool)
+    → penalties C m (q ++ (b ∷ [])) ≡ penalties C m q ++ (least C m (q ++ (b ∷ [])) ∷ [])
+unfolding penalties
+penalties-next C m q b =
+    ap (λ n. tabulate n (λ i. least C m (take (suc i) (q ++ (b ∷ []))))) (snoc-length q b)
+    ∙ tabulate-next (length q) (λ i. least C m (take (suc i) (q ++ (b ∷ [])))) (λ i. least C m (take (suc i) q))
+    (λ i l. ap (least C m) (take-append-le (suc i) q (b ∷ []) (omega arith)))
+    ∙ ap (λ s. tabulate (length q) (λ i. least C m (take (suc i) q)) ++ (least C m s ∷ []))
+    (take-all (suc (length q)) (q ++ (b ∷ [])) (omega (arith, snoc-length q b)))
+
+pub scores-at : (C : Code) (m : Costs) (u : List Bool) (i : ℕ) (d : ℤ) → i < length u → getD (scores C m u) i d ≡ score C m (take i u)
+unfolding scores
+scores-at C m u i d l = tabulate-at (length u) (λ i. score C m (take i u)) i d l
+
+pub penalties-at : (C : Code) (m : Costs) (u : List Bool) (i d : ℕ) → i < length u → getD (penalties C m u) i d ≡ least C m (take (suc i) u)
+unfolding penalties
+penalties-at C m u i d l = tabulate-at (length u) (λ i. least C m (take (suc i) u)) i d l
+
+pub length-scores : (C : Code) (m : Costs) (u : List Bool) → length (scores C m u) ≡ length u
+unfolding scores
+length-scores C m u = length-tabulate (length u) _
+
+pub length-penalties : (C : Code) (m : Costs) (u : List Bool) → length (penalties C m u) ≡ length u
+unfolding penalties
+length-penalties C m u = length-tabulate (length u) _
+
+-- The running penalty: each phase adds what its score pays for its symbol.
+pub penalty-runs : (C : Code) (m : Costs) (u : List Bool) (i : ℕ) → i < length u → length u ≤ C .size
+    → least C m (take (suc i) u) ≡ least C m (take i u) + pay (score C m (take i u)) (bit u i)
+penalty-runs C m u i l lu =
+    ap (least C m) (take-suc u i false l)
+    ∙ penalty-next C m (take i u) (bit u i) (omega (arith, length-take-le i u (omega arith)))
+
+-- ---- the decoder
+
+-- Some phases, and then others.
+pub decode-add : (C : Code) (m : Costs) (mask : ℕ → Bool) (k l : ℕ) (q : List Bool)
+    → decodeFrom C m mask (k + l) q ≡ decodeFrom C m mask l (decodeFrom C m mask k q)
+unfolding decodeFrom
+decode-add C m mask zero l q = rw zero-add
+decode-add C m mask (suc k) l q = rw suc-add (decode-add C m mask k l (q ++ (choose (mask (length q)) (score C m q) ∷ [])))
+
+pub length-decodeFrom : (C : Code) (m : Costs) (mask : ℕ → Bool) (k : ℕ) (q : List Bool) → length (decodeFrom C m mask k q) ≡ length q + k
+unfolding decodeFrom
+length-decodeFrom C m mask zero q = sym (add-zero (length q))
+length-decodeFrom C m mask (suc k) q = length-decodeFrom C m mask k _ ∙ rw length-append (omega arith)
+
+pub length-decode : (C : Code) (m : Costs) (mask : ℕ → Bool) → length (decode C m mask) ≡ C .size
+unfolding decode
+length-decode C m mask = length-decodeFrom C m mask (C .size) [] ∙ zero-add (C .size)
+
+-- What was chosen stays.
+decode-keeps : (C : Code) (m : Costs) (mask : ℕ → Bool) (k : ℕ) (q : List Bool) → take (length q) (decodeFrom C m mask k q) ≡ q
+unfolding decodeFrom
+decode-keeps C m mask zero q = take-all (length q) q (omega arith)
+decode-keeps C m mask (suc k) q =
+    let b = choose (mask (length q)) (score C m q) in
+    let ih = decode-keeps C m mask k (q ++ (b ∷ [])) in
+    sym (take-take (length q) (length (q ++ (b ∷ []))) _ (omega (arith, snoc-length q b)))
+    ∙ ap (take (length q)) ih ∙ take-append-seam q (b ∷ [])
+
+decode-from-at : (C : Code) (m : Costs) (mask : ℕ → Bool) (k : ℕ) (q : List Bool) (i : ℕ) → length q ≤ i → i < length q + k
+    → bit (decodeFrom C m mask k q) i ≡ choose (mask i) (score C m (take i (decodeFrom C m mask k q)))
+unfolding decodeFrom
+decode-from-at C m mask zero q i lo hi = absurd (omega arith)
+decode-from-at C m mask (suc k) q i lo hi = go (decLt (length q) i) (λ h. decode-from-at C m mask k (q ++ (b ∷ [])) i (omega (arith, snoc-length q b)) (omega (arith, snoc-length q b)))
+  where
+    b : Bool
+    b = choose (mask (length q)) (score C m q)
+
+    D : List Bool
+    D = decodeFrom C m mask k (q ++ (b ∷ []))
+
+    go : Dec (length q < i) → (length q < i → bit D i ≡ choose (mask i) (score C m (take i D))) → bit D i ≡ choose (mask i) (score C m (take i D))
+    go (yes h) ih = ih h
+    go (no h) ih =
+        let e : i ≡ length q = omega arith in
+        let n : suc (length q) ≡ length (q ++ (b ∷ [])) = sym (snoc-length q b) in
+        let w : take (suc (length q)) D ≡ q ++ (b ∷ []) = ap (λ n. take n D) n ∙ decode-keeps C m mask k (q ++ (b ∷ [])) in
+        let z : take (length q) D ≡ q =
+        sym (take-take (length q) (suc (length q)) D (omega arith)) ∙ ap (take (length q)) w ∙ take-append-seam q (b ∷ []) in
+        rw e
+        (sym (getD-take (suc (length q)) D (length q) false (omega arith))
+        ∙ ap (λ l. bit l (length q)) w ∙ getD-append-seam q b [] false
+        ∙ ap (λ s. choose (mask (length q)) (score C m s)) (sym z))
+
+-- At each phase the decoder's symbol is chosen by the score that belongs to the symbols before it.
+pub decode-at : (C : Code) (m : Costs) (mask : ℕ → Bool) (i : ℕ) → i < C .size
+    → bit (decode C m mask) i ≡ choose (mask i) (score C m (take i (decode C m mask)))
+unfolding decode
+decode-at C m mask i l = decode-from-at C m mask (C .size) [] i (omega arith) (omega arith)
+
+decode-from-only : (C : Code) (m : Costs) (mask : ℕ → Bool) (u : List Bool)
+    → ((i : ℕ) → i < length u → bit u i ≡ choose (mask i) (score C m (take i u)))
+    → (n k : ℕ) → k + n ≡ length u → decodeFrom C m mask n (take k u) ≡ u
+unfolding decodeFrom
+decode-from-only C m mask u h zero k e = take-all k u (omega arith)
+decode-from-only C m mask u h (suc n) k e =
+    let lk : length (take k u) ≡ k = length-take-le k u (omega arith) in
+    ap (λ b. decodeFrom C m mask n (take k u ++ (b ∷ [])))
+    (ap (λ i. choose (mask i) (score C m (take k u))) lk ∙ sym (h k (omega arith)))
+    ∙ ap (decodeFrom C m mask n) (sym (take-suc u k false (omega arith)))
+    ∙ decode-from-only C m mask u h n (suc k) (omega arith)
+
+-- And that rule fixes the decoder's symbols.
+pub decode-only : (C : Code) (m : Costs) (mask : ℕ → Bool) (u : List Bool) → length u ≡ C .size
+    → ((i : ℕ) → i < C .size → bit u i ≡ choose (mask i) (score C m (take i u))) → u ≡ decode C m mask
+unfolding decode
+decode-only C m mask u e h =
+    sym (ap (λ n. decodeFrom C m mask n []) (sym e) ∙ decode-from-only C m mask u (λ i l. h i (rw (← e) l)) (length u) zero (zero-add (length u)))
+
+-- ---- the rows of two stages
+
+-- A row is decoded by the inner code, over its soft values.
+pub decode-row : (A B : Code) → Onto A → (m : Costs) (mask : ℕ → Bool) (r : ℕ) (u : List Bool) → length u ≡ r * A .size → r < B .size
+    → (k : ℕ) (p : List Bool) → length p + k ≤ A .size
+    → decodeFrom (staged A B) m mask k (u ++ p) ≡ u ++ decodeFrom A (soft A B m (rows (A .size) r u)) (λ i. mask (r * A .size + i)) k p
+unfolding decodeFrom
+decode-row A B onto m mask r u e lr zero p lp = refl
+decode-row A B onto m mask r u e lr (suc k) p lp =
+    let d = soft A B m (rows (A .size) r u) in
+    let b = choose (mask (r * A .size + length p)) (score A d p) in
+    let eb = ap₂ (λ i s. choose (mask i) s) (length-append u p ∙ ap (λ x. x + length p) e) (layer-scores A B onto m r u p e lr (omega arith)) in
+    ap (decodeFrom (staged A B) m mask k) (ap (λ c. u ++ p ++ (c ∷ [])) eb ∙ append-assoc u p (b ∷ []))
+    ∙ decode-row A B onto m mask r u e lr k (p ++ (b ∷ [])) (simp length-append (omega arith))
+
+-- One row more.
+pub decode-rows : (A B : Code) → Onto A → (m : Costs) (mask : ℕ → Bool) (r : ℕ) → r < B .size
+    → (u : List Bool) → u ≡ decodeFrom (staged A B) m mask (r * A .size) []
+    → decodeFrom (staged A B) m mask (suc r * A .size) []
+    ≡ u ++ decodeFrom A (soft A B m (rows (A .size) r u)) (λ i. mask (r * A .size + i)) (A .size) []
+decode-rows A B onto m mask r lr u e =
+    let lu : length u ≡ r * A .size = ap length e ∙ length-decodeFrom (staged A B) m mask (r * A .size) [] ∙ zero-add (r * A .size) in
+    rw (suc-mul, decode-add, ← e)
+    (rw append-nil at (decode-row A B onto m mask r u lu lr (A .size) [] (omega arith)))

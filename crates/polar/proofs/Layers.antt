@@ -1,0 +1,118 @@
+-- Frames of any number of layers: one layer theorem, one undoing and one sum for all of them. Assumes nothing.
+use mathlib.Core.Path.{_≡_, refl, sym, ap, ap₂, _∙_, fun-ext, subst⁻¹}
+use mathlib.Core.Bool.{Bool, true, false, _&&_}
+use mathlib.Core.List.{List, [], _∷_, _++_, map}
+use Prim.Native.Nat.{ℕ, zero, suc, _+_, _-_, _*_, _/_, _%_, _^_, _≤_, _<_}
+use native.Mathlib.Nat.{lt-div-mul-add, div-add-mod', pow-suc, pow-succ', pow-zero, one-mul, mul-comm}
+use native.Mathlib.Omega.{arith}
+use lib.ListN.{length, drop, length-drop}
+use lib.IntN.{ℤ, subℕ}
+use Rattle.base.specs.Bit.{bit, parity}
+use Rattle.polar.specs.Code.{Code, Costs, pay, least, score, Onto, Undoes}
+use Rattle.polar.specs.Kernel.{Kernel, code, Invertible}
+use Rattle.polar.specs.Frame.{extent, factor, layers}
+use Rattle.polar.specs.Stages.{rows, column, staged, block, pairs, soft}
+use Rattle.polar.proofs.Layer.{layer-next, pos-right}
+use Rattle.polar.proofs.Least.{score-least}
+use Rattle.polar.proofs.Values.{values, score-values, value-pairs}
+use Rattle.polar.proofs.Undo.{Coder, coder-onto, layered}
+use Rattle.polar.proofs.Matrix.{coder}
+use Rattle.polar.proofs.Frame.{same-code, stages-matrix}
+
+-- Coders in layers: coder 0 innermost, each further one around those before it.
+abbrev pub tower : (ℕ → Coder) → ℕ → Coder
+tower K zero = K zero
+tower K (suc m) = layered (tower K m) (K (suc m))
+
+-- How far into the frame of the layers below the symbols q reach.
+below : (A B : Code) (q : List Bool) → length q < B .size * A .size → length (drop (length q / A .size * A .size) q) < A .size
+below A B q l =
+    rw length-drop (omega (arith, lt-div-mul-add {a = length q} (pos-right (length q) (B .size) (A .size) l), div-add-mod' (length q) (A .size)))
+
+-- The least after the symbols q and b: each outer layer turns the costs of its places into costs of the places of the frame inside it.
+unfoldable pub leastBy : (ℕ → Coder) → ℕ → Costs → List Bool → Bool → ℕ
+leastBy K zero c q b = least ((K zero) .enc) c (q ++ (b ∷ []))
+leastBy K (suc m) c q b =
+    let A = (tower K m) .enc in
+    let r : ℕ = length q / A .size in
+    leastBy K m (pairs A ((K (suc m)) .enc) c (rows (A .size) r q)) (drop (r * A .size) q) b
+
+-- The layer theorem in least totals, for any number of layers.
+pub layers-least : (K : ℕ → Coder) (m : ℕ) (c : Costs) (q : List Bool) (b : Bool) → length q < (tower K m) .enc .size
+    → least ((tower K m) .enc) c (q ++ (b ∷ [])) ≡ leastBy K m c q b
+unfolding leastBy
+layers-least K zero c q b l = refl
+layers-least K (suc m) c q b l =
+    let A = (tower K m) .enc in
+    let B = (K (suc m)) .enc in
+    let r : ℕ = length q / A .size in
+    layer-next A B (coder-onto (tower K m)) c q b l
+    ∙ layers-least K m (pairs A B c (rows (A .size) r q)) (drop (r * A .size) q) b (below A B q l)
+
+-- The same in scores: each outer layer turns the values of its places into values of the places of the frame inside it.
+unfoldable pub scoreBy : (ℕ → Coder) → ℕ → Costs → List Bool → ℤ
+scoreBy K zero c q = score ((K zero) .enc) c q
+scoreBy K (suc m) c q =
+    let A = (tower K m) .enc in
+    let r : ℕ = length q / A .size in
+    scoreBy K m (soft A ((K (suc m)) .enc) c (rows (A .size) r q)) (drop (r * A .size) q)
+
+pub layers-scores : (K : ℕ → Coder) (m : ℕ) (c : Costs) (q : List Bool) → length q < (tower K m) .enc .size
+    → score ((tower K m) .enc) c q ≡ scoreBy K m c q
+unfolding scoreBy
+layers-scores K zero c q l = refl
+layers-scores K (suc m) c q l =
+    let A = (tower K m) .enc in
+    let B = (K (suc m)) .enc in
+    let r : ℕ = length q / A .size in
+    let U = rows (A .size) r q in
+    let p = drop (r * A .size) q in
+    let onto = coder-onto (tower K m) in
+    score-least (staged A B) c q
+    ∙ ap₂ subℕ (layer-next A B onto c q true l) (layer-next A B onto c q false l)
+    ∙ sym (score-least A (pairs A B c U) p)
+    ∙ score-values A (pairs A B c U) p
+    ∙ ap (λ d. score A d p) (fun-ext (λ j. ap pay (value-pairs A B c U j)))
+    ∙ layers-scores K m (soft A B c U) p (below A B q l)
+
+-- ---- layers of kernels
+
+abbrev pub coders : (K : ℕ → Kernel) → ((i : ℕ) → Invertible (K i)) → ℕ → Coder
+coders K v i = coder (K i) (v i)
+
+-- Size and places of such a frame,
+pub tower-size : (K : ℕ → Kernel) (v : (i : ℕ) → Invertible (K i)) (m : ℕ) → (tower (coders K v) m) .enc .size ≡ extent K m
+tower-size K v zero = refl
+tower-size K v (suc m) = ap (λ n. (K (suc m)) .dim * n) (tower-size K v m)
+
+pub tower-places : (K : ℕ → Kernel) (v : (i : ℕ) → Invertible (K i)) (m : ℕ) → (tower (coders K v) m) .enc .places ≡ extent K m
+tower-places K v zero = refl
+tower-places K v (suc m) = ap (λ n. n * (K (suc m)) .dim) (tower-places K v m) ∙ mul-comm (extent K m) ((K (suc m)) .dim)
+
+-- and its word by one sum over all symbols.
+pub tower-word : (K : ℕ → Kernel) (v : (i : ℕ) → Invertible (K i)) (m : ℕ) (u : List Bool) (p : ℕ)
+    → (tower (coders K v) m) .enc .word u p ≡ parity (extent K m) (λ i. bit u i && factor K m i p)
+tower-word K v zero u p = refl
+tower-word K v (suc m) u p =
+    let n : ℕ = extent K m in
+    let w : ℕ = (K (suc m)) .dim in
+    ap (λ n. (code (K (suc m))) .word (map (λ x. (tower (coders K v) m) .enc .word x (p / w)) (rows n w u)) (p % w)) (tower-size K v m)
+    ∙ ap (λ (f : List Bool → Bool). (code (K (suc m))) .word (map f (rows n w u)) (p % w)) (fun-ext (λ x. tower-word K v m x (p / w)))
+    ∙ stages-matrix n n w w (factor K m) ((K (suc m)) .entry) u p
+
+-- So the frame by the sum is the one in stages.
+pub layers-tower : (K : ℕ → Kernel) (v : (i : ℕ) → Invertible (K i)) (m : ℕ) → layers K m ≡ (tower (coders K v) m) .enc
+layers-tower K v m =
+    same-code (layers K m) ((tower (coders K v) m) .enc) (sym (tower-size K v m)) (sym (tower-places K v m)) (λ u p. sym (tower-word K v m u p))
+
+-- A frame of any number of layers is undone by the frame of the inverses, nested the other way.
+pub layers-undo : (K : ℕ → Kernel) (v : (i : ℕ) → Invertible (K i)) (m : ℕ) → Undoes (layers K m) ((tower (coders K v) m) .dec)
+layers-undo K v m = rw (layers-tower K v m) ((tower (coders K v) m) .undo)
+
+pub layers-onto : (K : ℕ → Kernel) (v : (i : ℕ) → Invertible (K i)) (m : ℕ) → Onto (layers K m)
+layers-onto K v m = subst⁻¹ Onto (layers-tower K v m) (coder-onto (tower (coders K v) m))
+
+-- Kernels of n symbols in m + 1 layers make frames of n to the power m + 1.
+pub extent-power : (n : ℕ) (K : ℕ → Kernel) → ((i : ℕ) → (K i) .dim ≡ n) → (m : ℕ) → extent K m ≡ n ^ suc m
+extent-power n K h zero = rw (pow-suc, pow-zero, one-mul) (h zero)
+extent-power n K h (suc m) = rw pow-succ' (ap₂ _*_ (h (suc m)) (extent-power n K h m))

@@ -1,0 +1,10 @@
+pub mod Lowest
+pub mod Least
+pub mod Layer
+pub mod Values
+pub mod Follow
+pub mod Undo
+pub mod Matrix
+pub mod Frame
+pub mod Layers
+pub mod Relation

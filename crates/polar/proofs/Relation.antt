@@ -1,0 +1,215 @@
+-- Relations that can be solved, with an invertible matrix, make an invertible kernel. Assumes nothing.
+use mathlib.Core.Path.{_≡_, refl, sym, ap, ap₂, _∙_}
+use mathlib.Core.Bool.{Bool, true, false, _&&_, and-true, and-false, and-eq-true-iff}
+use mathlib.Core.List.{List, [], _∷_, map}
+use Prim.Native.Nat.{ℕ, zero, suc, _<_}
+use native.Mathlib.Omega.{arith}
+use borrow.Author.Tests.{ltb-true, eqb-true, eq-eqb}
+use lib.Dec.{eqb, ltb}
+use lib.ListN.{length, getD, length-map, List·getD-map}
+use lib.Seq.{ext-getD}
+use Rattle.base.specs.Bit.{_⊕_, bit, parity, tabulate, agree, the}
+use Rattle.base.proofs.Bool.{and-⊕, parity-cong, parity-false, parity-⊕, parity-only}
+use Rattle.base.proofs.List.{length-tabulate, tabulate-at, tabulate-cong, tabulate-bits, agree-same, agree-self, length-the, the-holds, the-only}
+use Rattle.polar.specs.Kernel.{product, Inverse}
+use Rattle.polar.specs.Relation.{Relation, sumOf, symbols, tied, tiedWord, untied, unit, row}
+use Rattle.polar.proofs.Matrix.{undone, product-word, product-inverse}
+
+-- Whether a relation names v i an odd number of times.
+unfoldable pub names : ℕ → Relation → Bool
+names i [] = false
+names i (j ∷ r) = eqb i j ⊕ names i r
+
+-- The relations as a matrix: entry i, s is 1 where symbol s uses v i.
+unfoldable pub uses : List Relation → ℕ → ℕ → Bool
+uses rs i s = names i (getD rs s [])
+
+-- Whether a relation, and every relation of a list, names v below n only.
+unfoldable pub within : ℕ → Relation → Bool
+within n [] = true
+within n (j ∷ r) = ltb j n && within n r
+
+unfoldable pub allWithin : ℕ → List Relation → Bool
+allWithin n [] = true
+allWithin n (r ∷ rs) = within n r && allWithin n rs
+
+-- A sum of v by the matrix.
+sum-names : (n : ℕ) (r : Relation) → within n r ≡ true → (v : List Bool) → sumOf r v ≡ parity n (λ i. bit v i && names i r)
+unfolding sumOf names within
+sum-names n [] t v = sym (parity-cong n (λ i _. and-false (bit v i)) ∙ parity-false n)
+sum-names n (j ∷ r) t v =
+    let h = (and-eq-true-iff (ltb j n) (within n r)) .0 t in
+    ap₂ _⊕_ (sym (parity-only n (bit v) j (ltb-true j n (h .0)))) (sum-names n r (h .1) v)
+    ∙ sym (parity-⊕ n (λ i. bit v i && eqb i j) (λ i. bit v i && names i r))
+    ∙ sym (parity-cong n (λ i _. and-⊕ (bit v i) (eqb i j) (names i r)))
+
+within-at : (n : ℕ) (rs : List Relation) → allWithin n rs ≡ true → (s : ℕ) → within n (getD rs s []) ≡ true
+unfolding allWithin within
+within-at n [] t s = refl
+within-at n (r ∷ rs) t zero = ((and-eq-true-iff (within n r) _) .0 t) .0
+within-at n (r ∷ rs) t (suc s) = within-at n rs (((and-eq-true-iff (within n r) _) .0 t) .1) s
+
+pub length-symbols : (rs : List Relation) (v : List Bool) → length (symbols rs v) ≡ length rs
+unfolding symbols
+length-symbols rs v = length-map rs (λ r. sumOf r v)
+
+symbols-at : (rs : List Relation) (v : List Bool) (s : ℕ) → bit (symbols rs v) s ≡ sumOf (getD rs s []) v
+unfolding symbols sumOf
+symbols-at rs v s = List·getD-map (λ r. sumOf r v) rs s []
+
+-- What is computed of relations and of the matrix F, with matrices that invert them.
+pub record Solution (n : ℕ) (F G : ℕ → ℕ → Bool) (rs : List Relation) (S : ℕ → ℕ → Bool) : Type 0 where
+  pub count : length rs ≡ n
+  pub bounded : allWithin n rs ≡ true
+  pub solves : Inverse n (uses rs) S
+  pub solved : Inverse n S (uses rs)
+  pub right : Inverse n F G
+  pub left : Inverse n G F
+
+module _ (n : ℕ) (F G : ℕ → ℕ → Bool) (rs : List Relation) (S : ℕ → ℕ → Bool) (k : Solution n F G rs S) where
+  -- Symbol s of v by the matrix.
+  symbol-uses : (v : List Bool) (s : ℕ) → bit (symbols rs v) s ≡ parity n (λ i. bit v i && uses rs i s)
+  unfolding uses
+  symbol-uses v s = symbols-at rs v s ∙ sum-names n (getD rs s []) (within-at n rs (k .bounded) s) v
+
+  -- The v of some symbols, by the solution.
+  solution : List Bool → List Bool
+  solution u = tabulate n (λ i. parity n (λ s. bit u s && S s i))
+
+  same-bits : (u v : List Bool) → length u ≡ n → length v ≡ n → ((i : ℕ) → i < n → bit u i ≡ bit v i) → u ≡ v
+  same-bits u v eu ev h = ext-getD false u v (eu ∙ sym ev) (λ i l. h i (rw (← eu) l))
+
+  symbols-solution : (u : List Bool) → length u ≡ n → symbols rs (solution u) ≡ u
+  unfolding solution
+  symbols-solution u e =
+      same-bits (symbols rs (solution u)) u (length-symbols rs (solution u) ∙ k .count) e (λ s l.
+      symbol-uses (solution u) s
+      ∙ parity-cong n (λ i h. ap (λ b. b && uses rs i s) (tabulate-at n (λ i. parity n (λ s. bit u s && S s i)) i false h))
+      ∙ undone n S (uses rs) (k .solved) (bit u) s l)
+
+  solution-symbols : (v : List Bool) → length v ≡ n → solution (symbols rs v) ≡ v
+  unfolding solution
+  solution-symbols v e =
+      same-bits (solution (symbols rs v)) v (length-tabulate n _) e (λ i l.
+      tabulate-at n (λ i. parity n (λ s. bit (symbols rs v) s && S s i)) i false l
+      ∙ parity-cong n (λ s h. ap (λ b. b && S s i) (symbol-uses v s))
+      ∙ undone n (uses rs) S (k .solves) (bit v) i l)
+
+  -- Every u belongs to some v,
+  pub symbols-tied : (u : List Bool) → length u ≡ n → symbols rs (tied rs u) ≡ u
+  unfolding tied solution
+  symbols-tied u e =
+      agree-same (symbols rs (tied rs u)) u
+      (the-holds (length rs) (λ v. agree (symbols rs v) u) (solution u) (length-tabulate n _ ∙ sym (k .count))
+      (ap (λ w. agree w u) (symbols-solution u e) ∙ agree-self u))
+
+  pub length-tied : (u : List Bool) → length (tied rs u) ≡ n
+  unfolding tied
+  length-tied u = length-the (length rs) _ ∙ k .count
+
+  -- and to one only.
+  pub one-v : (v w : List Bool) → length v ≡ n → length w ≡ n → symbols rs v ≡ symbols rs w → v ≡ w
+  one-v v w ev ew e = sym (solution-symbols v ev) ∙ ap solution e ∙ solution-symbols w ew
+
+  pub tied-symbols : (v : List Bool) → length v ≡ n → tied rs (symbols rs v) ≡ v
+  tied-symbols v e =
+      one-v (tied rs (symbols rs v)) v (length-tied (symbols rs v)) e (symbols-tied (symbols rs v) (length-symbols rs v ∙ k .count))
+
+  -- The word of the symbols of v is vF.
+  pub word-symbols : (v : List Bool) → length v ≡ n → (j : ℕ) → tiedWord F rs (symbols rs v) j ≡ parity n (λ i. bit v i && F i j)
+  unfolding tiedWord
+  word-symbols v e j =
+      ap₂ (λ m w. parity m (λ i. bit w i && F i j)) (k .count) (tied-symbols v e)
+
+  tied-solution : (u : List Bool) → length u ≡ n → tied rs u ≡ solution u
+  unfolding solution
+  tied-solution u e =
+      one-v (tied rs u) (solution u) (length-tied u) (length-tabulate n _) (symbols-tied u e ∙ sym (symbols-solution u e))
+
+  -- The word of any symbols, by the product of the solution and F.
+  pub word-product : (u : List Bool) → length u ≡ n → (j : ℕ) → tiedWord F rs u j ≡ parity n (λ s. bit u s && product n S F s j)
+  unfolding tiedWord solution
+  word-product u e j =
+      ap₂ (λ m w. parity m (λ i. bit w i && F i j)) (k .count) (tied-solution u e)
+      ∙ parity-cong n (λ i l. ap (λ b. b && F i j) (tabulate-at n (λ i. parity n (λ s. bit u s && S s i)) i false l))
+      ∙ product-word n n S F (bit u) j
+
+  -- The rows of the kernel are those of the product.
+  pub row-product : (s j : ℕ) → s < n → row F rs s j ≡ product n S F s j
+  row-product s j l =
+      ap (λ m. tiedWord F rs (unit m s) j) (k .count)
+      ∙ word-product (unit n s) (length-tabulate n _) j
+      ∙ parity-cong n (λ i h. ap (λ b. b && product n S F i j) (tabulate-at n (λ i. eqb i s) i false h) ∙ flip (eqb i s) (product n S F i j))
+      ∙ parity-only n (λ i. product n S F i j) s l
+    where
+      flip : (a b : Bool) → a && b ≡ b && a
+      flip true b = sym (and-true b)
+      flip false b = sym (and-false b)
+
+  -- A word is the sum of the rows of its symbols.
+  pub word-rows : (u : List Bool) → length u ≡ n → (j : ℕ) → tiedWord F rs u j ≡ parity n (λ s. bit u s && row F rs s j)
+  word-rows u e j = word-product u e j ∙ parity-cong n (λ s l. ap (λ b. bit u s && b) (sym (row-product s j l)))
+
+  -- The kernel of the relations can be inverted.
+  pub row-inverse : Inverse n (row F rs) (product n G (uses rs))
+  row-inverse s j ls lj =
+      parity-cong n (λ i l. ap (λ b. b && product n G (uses rs) i j) (row-product s i ls))
+      ∙ product-inverse n S F (uses rs) G (k .solved) (k .right) s j ls lj
+
+  pub inverse-row : Inverse n (product n G (uses rs)) (row F rs)
+  inverse-row s j ls lj =
+      parity-cong n (λ i l. ap (λ b. product n G (uses rs) s i && b) (row-product i j l))
+      ∙ product-inverse n G (uses rs) F S (k .left) (k .solves) s j ls lj
+
+  -- The symbols of a word, by that matrix.
+  undo-list : List Bool → List Bool
+  undo-list c = tabulate n (λ s. parity n (λ j. bit c j && product n G (uses rs) j s))
+
+  word-list : List Bool → List Bool
+  word-list u = tabulate n (tiedWord F rs u)
+
+  undo-list-word : (u : List Bool) → length u ≡ n → undo-list (word-list u) ≡ u
+  unfolding undo-list word-list
+  undo-list-word u e =
+      same-bits (undo-list (word-list u)) u (length-tabulate n _) e (λ s l.
+      tabulate-at n _ s false l
+      ∙ parity-cong n (λ j h. ap (λ b. b && product n G (uses rs) j s) (tabulate-at n (tiedWord F rs u) j false h ∙ word-rows u e j))
+      ∙ undone n (row F rs) (product n G (uses rs)) row-inverse (bit u) s l)
+
+  word-undo-list : (c : List Bool) → length c ≡ n → word-list (undo-list c) ≡ c
+  unfolding undo-list word-list
+  word-undo-list c e =
+      same-bits (word-list (undo-list c)) c (length-tabulate n _) e (λ j l.
+      tabulate-at n (tiedWord F rs (undo-list c)) j false l
+      ∙ word-rows (undo-list c) (length-tabulate n _) j
+      ∙ parity-cong n (λ s h. ap (λ b. b && row F rs s j) (tabulate-at n _ s false h))
+      ∙ undone n (product n G (uses rs)) (row F rs) inverse-row (bit c) j l)
+
+  untied-list : (c : List Bool) → length c ≡ n → untied F rs c ≡ undo-list c
+  unfolding untied undo-list word-list
+  untied-list c e =
+      the-only (length rs) (λ u. agree (tabulate (length rs) (tiedWord F rs u)) c) (undo-list c) (length-tabulate n _ ∙ sym (k .count))
+      (ap (λ m. agree (tabulate m (tiedWord F rs (undo-list c))) c) (k .count) ∙ ap (λ w. agree w c) (word-undo-list c e) ∙ agree-self c)
+      (λ u eu t.
+      sym (undo-list-word u (eu ∙ k .count))
+      ∙ ap undo-list (ap (λ m. tabulate m (tiedWord F rs u)) (sym (k .count)) ∙ agree-same (tabulate (length rs) (tiedWord F rs u)) c t))
+
+  -- Undoing by the matrix.
+  pub untied-product : (c : List Bool) → length c ≡ n → (s : ℕ) → s < n
+      → bit (untied F rs c) s ≡ parity n (λ j. bit c j && product n G (uses rs) j s)
+  unfolding undo-list
+  untied-product c e s l = ap (λ u. bit u s) (untied-list c e) ∙ tabulate-at n _ s false l
+
+  pub length-untied : (c : List Bool) → length (untied F rs c) ≡ n
+  unfolding untied
+  length-untied c = length-the (length rs) _ ∙ k .count
+
+  -- Undo of encode,
+  pub untied-word : (u : List Bool) → length u ≡ n → untied F rs (tabulate n (tiedWord F rs u)) ≡ u
+  unfolding word-list
+  untied-word u e = untied-list (word-list u) (length-tabulate n _) ∙ undo-list-word u e
+
+  -- and encode of undo.
+  pub word-untied : (c : List Bool) → length c ≡ n → tabulate n (tiedWord F rs (untied F rs c)) ≡ c
+  unfolding word-list
+  word-untied c e = ap word-list (untied-list c e) ∙ word-undo-list c e

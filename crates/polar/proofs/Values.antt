@@ -1,0 +1,103 @@
+-- Costs as channel values: the layer theorem in scores alone, and the running penalty. Assumes nothing.
+use mathlib.Core.Path.{_≡_, refl, sym, ap, ap₂, _∙_, fun-ext}
+use mathlib.Core.Bool.{Bool, true, false}
+use mathlib.Core.List.{List, [], _∷_, _++_, append-assoc, append-nil}
+use Prim.Native.Nat.{ℕ, zero, suc, _+_, _-_, _*_, _≤_, _<_, min}
+use native.Mathlib.Decide.{decLt}
+use native.Mathlib.Omega.{arith}
+use borrow.Author.Tests.{lt-ltb, le-ltb}
+use lib.ListN.{length, length-append}
+use lib.IntN.{ℤ, pos, negsuc, subℕ}
+use Rattle.polar.specs.Code.{Code, Costs, pay, sum, total, lowest, least, score, Onto}
+use Rattle.polar.specs.Stages.{rows, column, staged, block, pairs, soft}
+use Rattle.polar.proofs.Lowest.{lowest-cong, lowest-shift, sum-cong, sum-add}
+use Rattle.polar.proofs.Least.{score-least, least-free, least-step, least-bound}
+use Rattle.polar.proofs.Layer.{layer}
+
+-- The score after whole rows u and a part p of the next is the inner code's, over the pairs.
+pub score-layer : (A B : Code) → Onto A → (m : Costs) (r : ℕ) (u p : List Bool) → length u ≡ r * A .size → r < B .size → length p < A .size
+    → score (staged A B) m (u ++ p) ≡ score A (pairs A B m (rows (A .size) r u)) p
+score-layer A B onto m r u p e lr lp = score-least (staged A B) m (u ++ p) ∙ ap₂ subℕ (go true) (go false) ∙ sym (score-least A _ p)
+  where
+    go : (b : Bool) → least (staged A B) m (u ++ p ++ (b ∷ [])) ≡ least A (pairs A B m (rows (A .size) r u)) (p ++ (b ∷ []))
+    go b = rw (append-assoc u p (b ∷ [])) (layer A onto B m r u (p ++ (b ∷ [])) e lr (simp (length-append) (omega arith)))
+
+-- The value of a pair of costs: what bit 1 pays more than bit 0.
+abbrev pub value : (Bool → ℕ) → ℤ
+value c = subℕ (c true) (c false)
+
+-- What both bits pay.
+abbrev pub common : (Bool → ℕ) → ℕ
+common c = min (c false) (c true)
+
+-- The costs of the values of costs.
+abbrev pub values : Costs → Costs
+values m i = pay (value (m i))
+
+-- A pair pays what both bits pay, and what its value pays.
+pub parts : (c : Bool → ℕ) (b : Bool) → c b ≡ common c + pay (value c) b
+parts c b = go (decLt (c true) (c false)) b
+  where
+    go : Dec (c true < c false) → (b : Bool) → c b ≡ common c + pay (value c) b
+    go (yes l) false = rw (lt-ltb (c true) (c false) l) (omega arith)
+    go (yes l) true = rw (lt-ltb (c true) (c false) l) (omega arith)
+    go (no l) false = let h : c false ≤ c true = omega arith in rw (le-ltb (c true) (c false) h) (omega arith)
+    go (no l) true = let h : c false ≤ c true = omega arith in rw (le-ltb (c true) (c false) h) (omega arith)
+
+-- The least over costs: what all words pay, and the least over the values.
+pub least-values : (C : Code) (m : Costs) (p : List Bool) → least C m p ≡ sum (C .places) (λ i. common (m i)) + least C (values m) p
+unfolding least total
+least-values C m p =
+    lowest-cong _ (λ t _. sum-cong (C .places) (λ i _. parts (m i) (C .word (p ++ t) i))
+    ∙ sum-add (C .places) (λ i. common (m i)) (λ i. values m i (C .word (p ++ t) i)))
+    ∙ lowest-shift (sum (C .places) (λ i. common (m i))) _ (λ t. total C (values m) (p ++ t))
+
+sub-shift : (c a b : ℕ) → subℕ (c + a) (c + b) ≡ subℕ a b
+sub-shift c a b = go (decLt a b)
+  where
+    go : Dec (a < b) → subℕ (c + a) (c + b) ≡ subℕ a b
+    go (yes l) = let h : c + a < c + b = omega arith in rw (lt-ltb a b l, lt-ltb (c + a) (c + b) h) (ap negsuc (omega arith))
+    go (no l) = let h : c + b ≤ c + a = omega arith in let l′ : b ≤ a = omega arith in rw (le-ltb a b l′, le-ltb (c + a) (c + b) h) (ap pos (omega arith))
+
+-- The scores over costs are those over the values.
+pub score-values : (C : Code) (m : Costs) (p : List Bool) → score C m p ≡ score C (values m) p
+score-values C m p =
+    score-least C m p
+    ∙ ap₂ subℕ (least-values C m (p ++ (true ∷ []))) (least-values C m (p ++ (false ∷ [])))
+    ∙ sub-shift (sum (C .places) (λ i. common (m i))) _ _
+    ∙ sym (score-least C (values m) p)
+
+-- So the inner code of a staged may be given the outer scores as its values: its scores are the staged's,
+-- and its penalties with what stood before the row are the staged's.
+pub value-pairs : (A B : Code) (m : Costs) (U : List (List Bool)) (j : ℕ)
+    → value (pairs A B m U j) ≡ score B (block (B .places) m j) (column A U j)
+unfolding pairs
+value-pairs A B m U j = sym (score-least B (block (B .places) m j) (column A U j))
+
+pub penalty-values : (A B : Code) → Onto A → (m : Costs) (r : ℕ) (u p : List Bool) → length u ≡ r * A .size → r < B .size → length p ≤ A .size
+    → least (staged A B) m (u ++ p) ≡ least (staged A B) m u + least A (values (pairs A B m (rows (A .size) r u))) p
+penalty-values A B onto m r u p e lr lp =
+    let d = pairs A B m (rows (A .size) r u) in
+    let base = (rw append-nil at (layer A onto B m r u [] e lr (omega arith))) ∙ least-free A onto d in
+    layer A onto B m r u p e lr lp ∙ least-values A d p ∙ ap (λ x. x + least A (values d) p) (sym base)
+
+-- One more symbol adds what the score at its phase pays for it: penalties follow from scores alone.
+pub penalty-next : (C : Code) (m : Costs) (p : List Bool) (b : Bool) → length p < C .size
+    → least C m (p ++ (b ∷ [])) ≡ least C m p + pay (score C m p) b
+penalty-next C m p b l =
+    parts (λ c. least C m (p ++ (c ∷ []))) b
+    ∙ ap₂ (λ x s. x + pay s b) (sym (least-step C m p l)) (sym (score-least C m p))
+
+-- The layer theorem in scores alone: the staged's scores are the inner code's, with the outer codes' scores as its channel values.
+pub layer-scores : (A B : Code) → Onto A → (m : Costs) (r : ℕ) (u p : List Bool) → length u ≡ r * A .size → r < B .size → length p < A .size
+    → score (staged A B) m (u ++ p) ≡ score A (soft A B m (rows (A .size) r u)) p
+layer-scores A B onto m r u p e lr lp =
+    score-layer A B onto m r u p e lr lp
+    ∙ score-values A (pairs A B m (rows (A .size) r u)) p
+    ∙ ap (λ c. score A c p) (fun-ext (λ j. ap pay (value-pairs A B m (rows (A .size) r u) j)))
+
+-- A score is at most c for each place, where no cost exceeds c.
+pub score-bound : (C : Code) (m : Costs) (c : ℕ) → ((i : ℕ) (b : Bool) → m i b ≤ c) → (p : List Bool) (b : Bool) → pay (score C m p) b ≤ C .places * c
+score-bound C m c h p b =
+    let q : Bool → ℕ = λ d. least C m (p ++ (d ∷ [])) in
+    rw score-least (omega (arith, parts q b, least-bound C m c h (p ++ (b ∷ []))))

@@ -1,0 +1,38 @@
+-- Kernels: square matrices of bits, their codes, and what makes them invertible. Assumes nothing.
+use mathlib.Core.Path.{_≡_}
+use mathlib.Core.Bool.{Bool, _&&_}
+use Prim.Native.Nat.{ℕ, _<_}
+use lib.Dec.{eqb}
+use Rattle.base.specs.Bit.{bit, parity}
+use Rattle.polar.specs.Code.{Code}
+
+-- The code of a matrix with n rows and w columns: place j of the word of u is the sum over s of u[s] × M[s][j].
+abbrev pub matrix : ℕ → ℕ → (ℕ → ℕ → Bool) → Code
+matrix n w M = record { size = n; places = w; word = λ u j. parity n (λ s. bit u s && M s j) }
+
+-- Entry s, j of the product of two matrices, the first with n columns.
+abbrev pub product : ℕ → (ℕ → ℕ → Bool) → (ℕ → ℕ → Bool) → ℕ → ℕ → Bool
+product n M N s j = parity n (λ k. M s k && N k j)
+
+-- The product of the n × n matrices M and N is the unit matrix.
+abbrev pub Inverse : ℕ → (ℕ → ℕ → Bool) → (ℕ → ℕ → Bool) → Type 0
+Inverse n M N = (s j : ℕ) → s < n → j < n → product n M N s j ≡ eqb s j
+
+-- A kernel: a square matrix; entry s, j is bit j of row s.
+pub record Kernel : Type 0 where
+  pub dim : ℕ
+  pub entry : ℕ → ℕ → Bool
+
+-- The kernel's words: sums of its rows.
+abbrev pub code : Kernel → Code
+code K = matrix (K .dim) (K .dim) (K .entry)
+
+-- What makes a kernel invertible: a matrix that inverts it on both sides.
+pub record Invertible (K : Kernel) : Type 0 where
+  pub inverse : ℕ → ℕ → Bool
+  pub right : Inverse (K .dim) (K .entry) inverse
+  pub left : Inverse (K .dim) inverse (K .entry)
+
+-- The kernel that undoes it.
+abbrev pub inverted : (K : Kernel) → Invertible K → Kernel
+inverted K i = record { dim = K .dim; entry = i .inverse }

@@ -1,0 +1,6 @@
+pub mod Code
+pub mod Follow
+pub mod Kernel
+pub mod Frame
+pub mod Stages
+pub mod Relation
