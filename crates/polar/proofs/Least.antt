@@ -3,7 +3,7 @@ use mathlib.Core.Path.{_≡_, refl, sym, ap, ap₂, _∙_}
 use mathlib.Core.Bool.{Bool, true, false}
 use mathlib.Core.List.{List, [], _∷_, _++_, append-assoc}
 use Prim.Native.Nat.{ℕ, zero, suc, _+_, _-_, _*_, _≤_, _<_, min}
-use native.Mathlib.Nat.{sub-zero, zero-min, min-zero, le-antisymm}
+use native.Mathlib.Nat.{sub-zero, le-antisymm}
 use native.Mathlib.Numerals.{add-one}
 use native.Mathlib.Decide.{decLe}
 use native.Mathlib.Omega.{arith}
@@ -72,8 +72,8 @@ pub least-nil : (C : Code) → Onto C → (m : Costs) → ((i : ℕ) → min (m 
 least-nil C onto m z = least-free C onto m ∙ sum-cong (C .places) (λ i l. z i) ∙ sum-zero (C .places)
 
 pub pay-free : (y : ℤ) → min (pay y false) (pay y true) ≡ 0
-pay-free (pos y) = zero-min y
-pay-free (negsuc y) = min-zero (suc y)
+pay-free (pos y) = omega arith
+pay-free (negsuc y) = omega arith
 
 -- So before any symbol the penalty of channel values is 0.
 pub channel-nil : (C : Code) → Onto C → (ys : List ℤ) → least C (channel ys) [] ≡ 0
