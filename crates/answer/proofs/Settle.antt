@@ -1,10 +1,9 @@
 -- A verdict is accepted exactly if no listed check holds, else it is the first that holds. Assumes nothing.
-use mathlib.Core.Path.{_≡_, refl, sym, ap, _∙_}
-use mathlib.Core.Bool.{Bool, true, false, _||_, false≢true}
+use mathlib.Core.Path.{_≡_, refl, sym}
+use mathlib.Core.Bool.{Bool, true, false, false≢true}
 use mathlib.Core.List.{List, [], _∷_, _++_}
-use Prim.Native.Nat.{ℕ}
 use lib.ListN.{length, drop}
-use Rattle.answer.specs.Verdict.{Verdict, done, word, refused, isAccepted, Check, unless, settle, after}
+use Rattle.answer.specs.Verdict.{Verdict, done, word, refused, isAccepted, Check, settle, after}
 
 -- None of the checks holds.
 abbrev pub None : List Check → Type 0

@@ -1,11 +1,11 @@
 -- The sum of rows as a loop makes it, row after row. Assumes nothing.
-use mathlib.Core.Path.{_≡_, refl, sym, ap, ap₂, _∙_}
+use mathlib.Core.Path.{_≡_, sym, ap, _∙_}
 use mathlib.Core.Bool.{Bool, true, false, _&&_}
 use mathlib.Core.List.{List}
-use Prim.Native.Nat.{ℕ, zero, suc, _+_, _^_, _<_}
+use Prim.Native.Nat.{ℕ, _+_, _^_, _<_}
 use native.Mathlib.Numerals.{add-one}
 use lib.Bits.{bitXor}
-use lib.ListN.{length, getD}
+use lib.ListN.{getD}
 use Rattle.base.specs.Bit.{_⊕_, bit, parity, tabulate}
 use Rattle.base.proofs.Bool.{⊕-false, parity-last}
 use Rattle.base.proofs.List.{tabulate-cong, tabulate-bits}

@@ -1,33 +1,33 @@
 -- Words and symbols of the three kernels belong together one to one, and the two jobs undo one another. Assumes nothing.
-use mathlib.Core.Path.{_≡_, refl, sym, ap, _∙_}
-use mathlib.Core.Bool.{Bool, true, false, _&&_}
-use mathlib.Core.List.{List, [], _∷_}
+use mathlib.Core.Path.{_≡_, sym, ap, _∙_}
+use mathlib.Core.Bool.{Bool, true, _&&_}
+use mathlib.Core.List.{List}
 use Prim.Native.Nat.{ℕ, _^_, _<_}
 use lib.ListN.{length}
 use Rattle.base.specs.Bit.{bit, parity, tabulate}
 use Rattle.base.proofs.List.{length-tabulate}
 use Rattle.bits.specs.Packed.{bits, number}
 use Rattle.bits.proofs.Packed.{length-bits, bits-number, number-lt, number-bits-fit}
-use Rattle.answer.specs.Verdict.{word, wordOf, settle}
-use Rattle.polar.specs.Relation.{symbols, tied, tiedWord}
-use Rattle.polar.proofs.Relation.{symbols-tied, tied-symbols, length-tied, one-v, word-symbols, untied-word, word-untied, length-untied}
+use Rattle.answer.specs.Verdict.{word, wordOf}
+use Rattle.polar.specs.Relation.{symbols, tied}
+use Rattle.polar.proofs.Relation.{symbols-tied, length-tied, one-v, word-symbols, untied-word, word-untied, length-untied}
 use Rattle.kernel.specs.Kernels.{F, relations, wordBit, symbolsOf}
 use Rattle.kernel.specs.Jobs.{isKernel, checks, encoded, undone, kernelEncode, kernelUndo}
-use Rattle.kernel.proofs.Solved.{solved, solution}
+use Rattle.kernel.proofs.Solved.{answers, solution}
 
 module _ (k : ℕ) where
   -- The word of the symbols that the relations give for v is vF.
   pub word-of-v : (v : List Bool) → length v ≡ 16 → (j : ℕ) → wordBit k (symbols (relations k) v) j ≡ parity 16 (λ i. bit v i && F i j)
-  word-of-v = word-symbols 16 F F (relations k) (solved k) (solution k)
+  word-of-v = word-symbols 16 F F (relations k) (answers k) (solution k)
 
   -- Every u belongs to some v,
   pub some-v : (u : List Bool) → length u ≡ 16 → (v : List Bool) × (length v ≡ 16) × (symbols (relations k) v ≡ u)
   some-v u e =
-      (tied (relations k) u, length-tied 16 F F (relations k) (solved k) (solution k) u, symbols-tied 16 F F (relations k) (solved k) (solution k) u e)
+      (tied (relations k) u, length-tied 16 F F (relations k) (answers k) (solution k) u, symbols-tied 16 F F (relations k) (answers k) (solution k) u e)
 
   -- and to one only.
   pub only-v : (v w : List Bool) → length v ≡ 16 → length w ≡ 16 → symbols (relations k) v ≡ symbols (relations k) w → v ≡ w
-  only-v = one-v 16 F F (relations k) (solved k) (solution k)
+  only-v = one-v 16 F F (relations k) (answers k) (solution k)
 
   fits : (l : List Bool) → length l ≡ 16 → bits 16 (number l) ≡ l
   fits l e = ap (λ n. bits n (number l)) (sym e) ∙ bits-number l
@@ -41,7 +41,7 @@ module _ (k : ℕ) where
   pub undone-fits : (c : ℕ) → undone k c < 2 ^ 16
   unfolding undone
   undone-fits c =
-      rw (length-untied 16 F F (relations k) (solved k) (solution k) (bits 16 c)) at (number-lt (symbolsOf k (bits 16 c)))
+      rw (length-untied 16 F F (relations k) (answers k) (solution k) (bits 16 c)) at (number-lt (symbolsOf k (bits 16 c)))
 
   -- Undo of encode, over all symbols,
   pub undone-encoded : (u : ℕ) → u < 2 ^ 16 → undone k (encoded k u) ≡ u
@@ -49,7 +49,7 @@ module _ (k : ℕ) where
   undone-encoded u h =
       let l = tabulate 16 (wordBit k (bits 16 u)) in
       ap (λ c. number (symbolsOf k c)) (fits l (length-tabulate 16 _))
-      ∙ ap number (untied-word 16 F F (relations k) (solved k) (solution k) (bits 16 u) (length-bits 16 u))
+      ∙ ap number (untied-word 16 F F (relations k) (answers k) (solution k) (bits 16 u) (length-bits 16 u))
       ∙ number-bits-fit 16 u h
 
   -- and encode of undo, over all words.
@@ -57,8 +57,8 @@ module _ (k : ℕ) where
   unfolding encoded undone
   encoded-undone c h =
       let u = symbolsOf k (bits 16 c) in
-      ap (λ l. number (tabulate 16 (wordBit k l))) (fits u (length-untied 16 F F (relations k) (solved k) (solution k) (bits 16 c)))
-      ∙ ap number (word-untied 16 F F (relations k) (solved k) (solution k) (bits 16 c) (length-bits 16 c))
+      ap (λ l. number (tabulate 16 (wordBit k l))) (fits u (length-untied 16 F F (relations k) (answers k) (solution k) (bits 16 c)))
+      ∙ ap number (word-untied 16 F F (relations k) (answers k) (solution k) (bits 16 c) (length-bits 16 c))
       ∙ number-bits-fit 16 c h
 
   -- The same of the two jobs.

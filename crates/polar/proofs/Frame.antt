@@ -1,7 +1,7 @@
 -- Frames of kernels: their words by the paper's sum are those of two stages, so the layer theorem and the undoing hold of them. Assumes nothing.
 use mathlib.Core.Path.{_≡_, refl, sym, ap, ap₂, _∙_, fun-ext}
 use mathlib.Core.Bool.{Bool, false, _&&_, and-assoc}
-use mathlib.Core.List.{List, [], _∷_, _++_}
+use mathlib.Core.List.{List, _++_}
 use Prim.Native.Nat.{ℕ, zero, suc, _+_, _*_, _/_, _%_, _≤_, _<_}
 use native.Mathlib.Nat.{mul-comm}
 use lib.ListN.{length, take, drop}
@@ -11,7 +11,7 @@ use Rattle.base.proofs.Bool.{parity-cong, parity-and, parity-blocks}
 use Rattle.polar.specs.Code.{Code, Costs, least, score, Onto, Undoes}
 use Rattle.polar.specs.Kernel.{matrix, Kernel, code, Invertible, inverted}
 use Rattle.polar.specs.Frame.{frame, layers}
-use Rattle.polar.specs.Stages.{rows, column, staged, pairs, soft}
+use Rattle.polar.specs.Stages.{rows, staged, pairs, soft}
 use Rattle.polar.proofs.Lowest.{quot, rest}
 use Rattle.polar.proofs.Layer.{layer}
 use Rattle.polar.proofs.Values.{layer-scores}

@@ -2,7 +2,7 @@
 use mathlib.Core.Path.{_≡_, refl, sym, ap, ap₂, _∙_, fun-ext, subst⁻¹}
 use mathlib.Core.Bool.{Bool, true, false, _&&_}
 use mathlib.Core.List.{List, [], _∷_, _++_, map}
-use Prim.Native.Nat.{ℕ, zero, suc, _+_, _-_, _*_, _/_, _%_, _^_, _≤_, _<_}
+use Prim.Native.Nat.{ℕ, zero, suc, _+_, _-_, _*_, _/_, _%_, _^_, _<_}
 use native.Mathlib.Nat.{lt-div-mul-add, div-add-mod', pow-suc, pow-succ', pow-zero, one-mul, mul-comm}
 use native.Mathlib.Omega.{arith}
 use lib.ListN.{length, drop, length-drop}
@@ -11,10 +11,10 @@ use Rattle.base.specs.Bit.{bit, parity}
 use Rattle.polar.specs.Code.{Code, Costs, pay, least, score, Onto, Undoes}
 use Rattle.polar.specs.Kernel.{Kernel, code, Invertible}
 use Rattle.polar.specs.Frame.{extent, factor, layers}
-use Rattle.polar.specs.Stages.{rows, column, staged, block, pairs, soft}
+use Rattle.polar.specs.Stages.{rows, staged, pairs, soft}
 use Rattle.polar.proofs.Layer.{layer-next, pos-right}
 use Rattle.polar.proofs.Least.{score-least}
-use Rattle.polar.proofs.Values.{values, score-values, value-pairs}
+use Rattle.polar.proofs.Values.{score-values, value-pairs}
 use Rattle.polar.proofs.Undo.{Coder, coder-onto, layered}
 use Rattle.polar.proofs.Matrix.{coder}
 use Rattle.polar.proofs.Frame.{same-code, stages-matrix}

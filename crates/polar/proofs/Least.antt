@@ -12,7 +12,7 @@ use borrow.Author.Tests.{le-ltb}
 use lib.Dec.{le→leb, leb→le}
 use lib.IntN.{ℤ, pos, negsuc, negℤ, subℕ, _+ℤ_, _-ℤ_, negℤ-negℤ}
 use lib.Signed.{_≤ℤ_, leZ-yes}
-use Rattle.polar.specs.Code.{Code, Costs, pay, channel, sum, total, lowest, least, wordScore, bestScore, IsBest, score, Onto}
+use Rattle.polar.specs.Code.{Code, Costs, pay, channel, sum, total, lowest, least, bestScore, IsBest, score, Onto}
 use Rattle.polar.proofs.Lowest.{lowest-le, lowest-at, lowest-cong, sum-cong, sum-le, sum-zero, sum-const}
 
 -- Every word that begins with p pays at least the least,

@@ -1,15 +1,12 @@
 -- Laws of matrices of bits: products, inverses, and the codes that they make. Assumes nothing.
-use mathlib.Core.Path.{_≡_, refl, sym, ap, ap₂, _∙_}
+use mathlib.Core.Path.{_≡_, refl, sym, ap, _∙_}
 use mathlib.Core.Bool.{Bool, true, false, not, _&&_, and-assoc}
-use mathlib.Core.List.{List, [], _∷_}
-use Prim.Native.Nat.{ℕ, zero, suc, _<_}
-use native.Mathlib.Omega.{arith}
+use Prim.Native.Nat.{ℕ, _<_}
 use lib.Dec.{eqb}
-use lib.ListN.{length}
-use Rattle.base.specs.Bit.{_⊕_, bit, parity, tabulate, every}
+use Rattle.base.specs.Bit.{_⊕_, bit, parity, every}
 use Rattle.base.proofs.Bool.{⊕-same, parity-cong, parity-and, and-parity, parity-swap, parity-only, every-at}
 use Rattle.base.proofs.List.{tabulate-at}
-use Rattle.polar.specs.Code.{Code, Onto, Undoes}
+use Rattle.polar.specs.Code.{Onto, Undoes}
 use Rattle.polar.specs.Kernel.{matrix, product, Inverse, Kernel, code, Invertible, inverted}
 use Rattle.polar.proofs.Undo.{undo-onto, Coder}
 

@@ -1,19 +1,18 @@
 -- Relations that can be solved, with an invertible matrix, make an invertible kernel. Assumes nothing.
 use mathlib.Core.Path.{_≡_, refl, sym, ap, ap₂, _∙_}
 use mathlib.Core.Bool.{Bool, true, false, _&&_, and-true, and-false, and-eq-true-iff}
-use mathlib.Core.List.{List, [], _∷_, map}
+use mathlib.Core.List.{List, [], _∷_}
 use Prim.Native.Nat.{ℕ, zero, suc, _<_}
-use native.Mathlib.Omega.{arith}
-use borrow.Author.Tests.{ltb-true, eqb-true, eq-eqb}
+use borrow.Author.Tests.{ltb-true, eqb-true}
 use lib.Dec.{eqb, ltb}
 use lib.ListN.{length, getD, length-map, List·getD-map}
 use lib.Seq.{ext-getD}
-use Rattle.base.specs.Bit.{_⊕_, bit, parity, tabulate, agree, the}
+use Rattle.base.specs.Bit.{_⊕_, bit, parity, tabulate, agree}
 use Rattle.base.proofs.Bool.{and-⊕, parity-cong, parity-false, parity-⊕, parity-only}
-use Rattle.base.proofs.List.{length-tabulate, tabulate-at, tabulate-cong, tabulate-bits, agree-same, agree-self, length-the, the-holds, the-only}
+use Rattle.base.proofs.List.{length-tabulate, tabulate-at, agree-same, agree-self, length-the, the-holds, the-only}
 use Rattle.polar.specs.Kernel.{product, Inverse}
 use Rattle.polar.specs.Relation.{Relation, sumOf, symbols, tied, tiedWord, untied, unit, row}
-use Rattle.polar.proofs.Matrix.{undone, product-word, product-inverse}
+use Rattle.polar.proofs.Matrix.{undone, product-word, product-inverse, inverseTest, tested}
 
 -- Whether a relation names v i an odd number of times.
 unfoldable pub names : ℕ → Relation → Bool
@@ -57,90 +56,106 @@ symbols-at : (rs : List Relation) (v : List Bool) (s : ℕ) → bit (symbols rs 
 unfolding symbols sumOf
 symbols-at rs v s = List·getD-map (λ r. sumOf r v) rs s []
 
--- What is computed of relations and of the matrix F, with matrices that invert them.
-pub record Solution (n : ℕ) (F G : ℕ → ℕ → Bool) (rs : List Relation) (S : ℕ → ℕ → Bool) : Type 0 where
+-- Symbol s of v by the matrix.
+pub symbol-uses : (n : ℕ) (rs : List Relation) → allWithin n rs ≡ true → (v : List Bool) (s : ℕ)
+    → bit (symbols rs v) s ≡ parity n (λ i. bit v i && uses rs i s)
+unfolding uses
+symbol-uses n rs t v s = symbols-at rs v s ∙ sum-names n (getD rs s []) (within-at n rs t s) v
+
+-- What is computed of two lists of n relations: qs give back each v from its symbols by rs.
+pub record Solves (n : ℕ) (rs qs : List Relation) : Type 0 where
   pub count : length rs ≡ n
+  pub solutions : length qs ≡ n
   pub bounded : allWithin n rs ≡ true
-  pub solves : Inverse n (uses rs) S
-  pub solved : Inverse n S (uses rs)
+  pub within-too : allWithin n qs ≡ true
+  pub product-unit : Inverse n (uses rs) (uses qs)
+
+-- The computed test of that.
+unfoldable pub solvesTest : ℕ → List Relation → List Relation → Bool
+solvesTest n rs qs =
+    eqb (length rs) n && eqb (length qs) n && allWithin n rs && allWithin n qs && inverseTest n (uses rs) (uses qs)
+
+pub solves-by : (n : ℕ) (rs qs : List Relation) → solvesTest n rs qs ≡ true → Solves n rs qs
+unfolding solvesTest
+solves-by n rs qs t =
+    let a = (and-eq-true-iff _ (inverseTest n (uses rs) (uses qs))) .0 t in
+    let b = (and-eq-true-iff _ (allWithin n qs)) .0 (a .0) in
+    let c = (and-eq-true-iff _ (allWithin n rs)) .0 (b .0) in
+    let d = (and-eq-true-iff (eqb (length rs) n) (eqb (length qs) n)) .0 (c .0) in
+    record {
+      count = eqb-true (length rs) n (d .0);
+      solutions = eqb-true (length qs) n (d .1);
+      bounded = c .1;
+      within-too = b .1;
+      product-unit = tested n (uses rs) (uses qs) (a .1);
+    }
+
+pub same-bits : (n : ℕ) (u v : List Bool) → length u ≡ n → length v ≡ n → ((i : ℕ) → i < n → bit u i ≡ bit v i) → u ≡ v
+same-bits n u v eu ev h = ext-getD false u v (eu ∙ sym ev) (λ i l. h i (rw (← eu) l))
+
+pub solved-symbols : (n : ℕ) (rs qs : List Relation) → Solves n rs qs → (v : List Bool) → length v ≡ n → symbols qs (symbols rs v) ≡ v
+solved-symbols n rs qs k v e =
+    same-bits n (symbols qs (symbols rs v)) v (length-symbols qs (symbols rs v) ∙ k .solutions) e (λ i l.
+    symbol-uses n qs (k .within-too) (symbols rs v) i
+    ∙ parity-cong n (λ s h. ap (λ b. b && uses qs s i) (symbol-uses n rs (k .bounded) v s))
+    ∙ undone n (uses rs) (uses qs) (k .product-unit) (bit v) i l)
+
+-- What is computed of a kernel: relations that can be solved, both ways, and a matrix F with its inverse G.
+pub record Solution (n : ℕ) (F G : ℕ → ℕ → Bool) (rs qs : List Relation) : Type 0 where
+  pub solves : Solves n rs qs
+  pub solved : Solves n qs rs
   pub right : Inverse n F G
   pub left : Inverse n G F
 
-module _ (n : ℕ) (F G : ℕ → ℕ → Bool) (rs : List Relation) (S : ℕ → ℕ → Bool) (k : Solution n F G rs S) where
-  -- Symbol s of v by the matrix.
-  symbol-uses : (v : List Bool) (s : ℕ) → bit (symbols rs v) s ≡ parity n (λ i. bit v i && uses rs i s)
-  unfolding uses
-  symbol-uses v s = symbols-at rs v s ∙ sum-names n (getD rs s []) (within-at n rs (k .bounded) s) v
-
-  -- The v of some symbols, by the solution.
-  solution : List Bool → List Bool
-  solution u = tabulate n (λ i. parity n (λ s. bit u s && S s i))
-
-  same-bits : (u v : List Bool) → length u ≡ n → length v ≡ n → ((i : ℕ) → i < n → bit u i ≡ bit v i) → u ≡ v
-  same-bits u v eu ev h = ext-getD false u v (eu ∙ sym ev) (λ i l. h i (rw (← eu) l))
-
-  symbols-solution : (u : List Bool) → length u ≡ n → symbols rs (solution u) ≡ u
-  unfolding solution
-  symbols-solution u e =
-      same-bits (symbols rs (solution u)) u (length-symbols rs (solution u) ∙ k .count) e (λ s l.
-      symbol-uses (solution u) s
-      ∙ parity-cong n (λ i h. ap (λ b. b && uses rs i s) (tabulate-at n (λ i. parity n (λ s. bit u s && S s i)) i false h))
-      ∙ undone n S (uses rs) (k .solved) (bit u) s l)
-
-  solution-symbols : (v : List Bool) → length v ≡ n → solution (symbols rs v) ≡ v
-  unfolding solution
-  solution-symbols v e =
-      same-bits (solution (symbols rs v)) v (length-tabulate n _) e (λ i l.
-      tabulate-at n (λ i. parity n (λ s. bit (symbols rs v) s && S s i)) i false l
-      ∙ parity-cong n (λ s h. ap (λ b. b && S s i) (symbol-uses v s))
-      ∙ undone n (uses rs) S (k .solves) (bit v) i l)
-
+module _ (n : ℕ) (F G : ℕ → ℕ → Bool) (rs qs : List Relation) (k : Solution n F G rs qs) where
   -- Every u belongs to some v,
   pub symbols-tied : (u : List Bool) → length u ≡ n → symbols rs (tied rs u) ≡ u
-  unfolding tied solution
+  unfolding tied
   symbols-tied u e =
       agree-same (symbols rs (tied rs u)) u
-      (the-holds (length rs) (λ v. agree (symbols rs v) u) (solution u) (length-tabulate n _ ∙ sym (k .count))
-      (ap (λ w. agree w u) (symbols-solution u e) ∙ agree-self u))
+      (the-holds (length rs) (λ v. agree (symbols rs v) u) (symbols qs u)
+      (length-symbols qs u ∙ k .solves .solutions ∙ sym (k .solves .count))
+      (ap (λ w. agree w u) (solved-symbols n qs rs (k .solved) u e) ∙ agree-self u))
 
   pub length-tied : (u : List Bool) → length (tied rs u) ≡ n
   unfolding tied
-  length-tied u = length-the (length rs) _ ∙ k .count
+  length-tied u = length-the (length rs) _ ∙ k .solves .count
 
   -- and to one only.
   pub one-v : (v w : List Bool) → length v ≡ n → length w ≡ n → symbols rs v ≡ symbols rs w → v ≡ w
-  one-v v w ev ew e = sym (solution-symbols v ev) ∙ ap solution e ∙ solution-symbols w ew
+  one-v v w ev ew e = sym (solved-symbols n rs qs (k .solves) v ev) ∙ ap (symbols qs) e ∙ solved-symbols n rs qs (k .solves) w ew
 
   pub tied-symbols : (v : List Bool) → length v ≡ n → tied rs (symbols rs v) ≡ v
   tied-symbols v e =
-      one-v (tied rs (symbols rs v)) v (length-tied (symbols rs v)) e (symbols-tied (symbols rs v) (length-symbols rs v ∙ k .count))
+      one-v (tied rs (symbols rs v)) v (length-tied (symbols rs v)) e (symbols-tied (symbols rs v) (length-symbols rs v ∙ k .solves .count))
 
   -- The word of the symbols of v is vF.
   pub word-symbols : (v : List Bool) → length v ≡ n → (j : ℕ) → tiedWord F rs (symbols rs v) j ≡ parity n (λ i. bit v i && F i j)
   unfolding tiedWord
   word-symbols v e j =
-      ap₂ (λ m w. parity m (λ i. bit w i && F i j)) (k .count) (tied-symbols v e)
+      ap₂ (λ m w. parity m (λ i. bit w i && F i j)) (k .solves .count) (tied-symbols v e)
 
-  tied-solution : (u : List Bool) → length u ≡ n → tied rs u ≡ solution u
-  unfolding solution
+  -- It is the one that the solution gives.
+  pub tied-solution : (u : List Bool) → length u ≡ n → tied rs u ≡ symbols qs u
   tied-solution u e =
-      one-v (tied rs u) (solution u) (length-tied u) (length-tabulate n _) (symbols-tied u e ∙ sym (symbols-solution u e))
+      one-v (tied rs u) (symbols qs u) (length-tied u) (length-symbols qs u ∙ k .solves .solutions)
+      (symbols-tied u e ∙ sym (solved-symbols n qs rs (k .solved) u e))
 
   -- The word of any symbols, by the product of the solution and F.
-  pub word-product : (u : List Bool) → length u ≡ n → (j : ℕ) → tiedWord F rs u j ≡ parity n (λ s. bit u s && product n S F s j)
-  unfolding tiedWord solution
+  pub word-product : (u : List Bool) → length u ≡ n → (j : ℕ) → tiedWord F rs u j ≡ parity n (λ s. bit u s && product n (uses qs) F s j)
+  unfolding tiedWord
   word-product u e j =
-      ap₂ (λ m w. parity m (λ i. bit w i && F i j)) (k .count) (tied-solution u e)
-      ∙ parity-cong n (λ i l. ap (λ b. b && F i j) (tabulate-at n (λ i. parity n (λ s. bit u s && S s i)) i false l))
-      ∙ product-word n n S F (bit u) j
+      ap₂ (λ m w. parity m (λ i. bit w i && F i j)) (k .solves .count) (tied-solution u e)
+      ∙ parity-cong n (λ i _. ap (λ b. b && F i j) (symbol-uses n qs (k .solves .within-too) u i))
+      ∙ product-word n n (uses qs) F (bit u) j
 
   -- The rows of the kernel are those of the product.
-  pub row-product : (s j : ℕ) → s < n → row F rs s j ≡ product n S F s j
+  pub row-product : (s j : ℕ) → s < n → row F rs s j ≡ product n (uses qs) F s j
   row-product s j l =
-      ap (λ m. tiedWord F rs (unit m s) j) (k .count)
+      ap (λ m. tiedWord F rs (unit m s) j) (k .solves .count)
       ∙ word-product (unit n s) (length-tabulate n _) j
-      ∙ parity-cong n (λ i h. ap (λ b. b && product n S F i j) (tabulate-at n (λ i. eqb i s) i false h) ∙ flip (eqb i s) (product n S F i j))
-      ∙ parity-only n (λ i. product n S F i j) s l
+      ∙ parity-cong n (λ i h. ap (λ b. b && product n (uses qs) F i j) (tabulate-at n (λ i. eqb i s) i false h) ∙ flip (eqb i s) (product n (uses qs) F i j))
+      ∙ parity-only n (λ i. product n (uses qs) F i j) s l
     where
       flip : (a b : Bool) → a && b ≡ b && a
       flip true b = sym (and-true b)
@@ -154,12 +169,12 @@ module _ (n : ℕ) (F G : ℕ → ℕ → Bool) (rs : List Relation) (S : ℕ �
   pub row-inverse : Inverse n (row F rs) (product n G (uses rs))
   row-inverse s j ls lj =
       parity-cong n (λ i l. ap (λ b. b && product n G (uses rs) i j) (row-product s i ls))
-      ∙ product-inverse n S F (uses rs) G (k .solved) (k .right) s j ls lj
+      ∙ product-inverse n (uses qs) F (uses rs) G (k .solved .product-unit) (k .right) s j ls lj
 
   pub inverse-row : Inverse n (product n G (uses rs)) (row F rs)
   inverse-row s j ls lj =
       parity-cong n (λ i l. ap (λ b. product n G (uses rs) s i && b) (row-product i j l))
-      ∙ product-inverse n G (uses rs) F S (k .left) (k .solves) s j ls lj
+      ∙ product-inverse n G (uses rs) F (uses qs) (k .left) (k .solves .product-unit) s j ls lj
 
   -- The symbols of a word, by that matrix.
   undo-list : List Bool → List Bool
@@ -171,7 +186,7 @@ module _ (n : ℕ) (F G : ℕ → ℕ → Bool) (rs : List Relation) (S : ℕ �
   undo-list-word : (u : List Bool) → length u ≡ n → undo-list (word-list u) ≡ u
   unfolding undo-list word-list
   undo-list-word u e =
-      same-bits (undo-list (word-list u)) u (length-tabulate n _) e (λ s l.
+      same-bits n (undo-list (word-list u)) u (length-tabulate n _) e (λ s l.
       tabulate-at n _ s false l
       ∙ parity-cong n (λ j h. ap (λ b. b && product n G (uses rs) j s) (tabulate-at n (tiedWord F rs u) j false h ∙ word-rows u e j))
       ∙ undone n (row F rs) (product n G (uses rs)) row-inverse (bit u) s l)
@@ -179,7 +194,7 @@ module _ (n : ℕ) (F G : ℕ → ℕ → Bool) (rs : List Relation) (S : ℕ �
   word-undo-list : (c : List Bool) → length c ≡ n → word-list (undo-list c) ≡ c
   unfolding undo-list word-list
   word-undo-list c e =
-      same-bits (word-list (undo-list c)) c (length-tabulate n _) e (λ j l.
+      same-bits n (word-list (undo-list c)) c (length-tabulate n _) e (λ j l.
       tabulate-at n (tiedWord F rs (undo-list c)) j false l
       ∙ word-rows (undo-list c) (length-tabulate n _) j
       ∙ parity-cong n (λ s h. ap (λ b. b && row F rs s j) (tabulate-at n _ s false h))
@@ -188,11 +203,11 @@ module _ (n : ℕ) (F G : ℕ → ℕ → Bool) (rs : List Relation) (S : ℕ �
   untied-list : (c : List Bool) → length c ≡ n → untied F rs c ≡ undo-list c
   unfolding untied undo-list word-list
   untied-list c e =
-      the-only (length rs) (λ u. agree (tabulate (length rs) (tiedWord F rs u)) c) (undo-list c) (length-tabulate n _ ∙ sym (k .count))
-      (ap (λ m. agree (tabulate m (tiedWord F rs (undo-list c))) c) (k .count) ∙ ap (λ w. agree w c) (word-undo-list c e) ∙ agree-self c)
+      the-only (length rs) (λ u. agree (tabulate (length rs) (tiedWord F rs u)) c) (undo-list c) (length-tabulate n _ ∙ sym (k .solves .count))
+      (ap (λ m. agree (tabulate m (tiedWord F rs (undo-list c))) c) (k .solves .count) ∙ ap (λ w. agree w c) (word-undo-list c e) ∙ agree-self c)
       (λ u eu t.
-      sym (undo-list-word u (eu ∙ k .count))
-      ∙ ap undo-list (ap (λ m. tabulate m (tiedWord F rs u)) (sym (k .count)) ∙ agree-same (tabulate (length rs) (tiedWord F rs u)) c t))
+      sym (undo-list-word u (eu ∙ k .solves .count))
+      ∙ ap undo-list (ap (λ m. tabulate m (tiedWord F rs u)) (sym (k .solves .count)) ∙ agree-same (tabulate (length rs) (tiedWord F rs u)) c t))
 
   -- Undoing by the matrix.
   pub untied-product : (c : List Bool) → length c ≡ n → (s : ℕ) → s < n
@@ -202,7 +217,7 @@ module _ (n : ℕ) (F G : ℕ → ℕ → Bool) (rs : List Relation) (S : ℕ �
 
   pub length-untied : (c : List Bool) → length (untied F rs c) ≡ n
   unfolding untied
-  length-untied c = length-the (length rs) _ ∙ k .count
+  length-untied c = length-the (length rs) _ ∙ k .solves .count
 
   -- Undo of encode,
   pub untied-word : (u : List Bool) → length u ≡ n → untied F rs (tabulate n (tiedWord F rs u)) ≡ u

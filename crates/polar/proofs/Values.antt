@@ -1,14 +1,14 @@
 -- Costs as channel values: the layer theorem in scores alone, and the running penalty. Assumes nothing.
-use mathlib.Core.Path.{_≡_, refl, sym, ap, ap₂, _∙_, fun-ext}
+use mathlib.Core.Path.{_≡_, sym, ap, ap₂, _∙_, fun-ext}
 use mathlib.Core.Bool.{Bool, true, false}
 use mathlib.Core.List.{List, [], _∷_, _++_, append-assoc, append-nil}
-use Prim.Native.Nat.{ℕ, zero, suc, _+_, _-_, _*_, _≤_, _<_, min}
+use Prim.Native.Nat.{ℕ, _+_, _-_, _*_, _≤_, _<_, min}
 use native.Mathlib.Decide.{decLt}
 use native.Mathlib.Omega.{arith}
 use borrow.Author.Tests.{lt-ltb, le-ltb}
 use lib.ListN.{length, length-append}
 use lib.IntN.{ℤ, pos, negsuc, subℕ}
-use Rattle.polar.specs.Code.{Code, Costs, pay, sum, total, lowest, least, score, Onto}
+use Rattle.polar.specs.Code.{Code, Costs, pay, sum, total, least, score, Onto}
 use Rattle.polar.specs.Stages.{rows, column, staged, block, pairs, soft}
 use Rattle.polar.proofs.Lowest.{lowest-cong, lowest-shift, sum-cong, sum-add}
 use Rattle.polar.proofs.Least.{score-least, least-free, least-step, least-bound}

@@ -1,8 +1,7 @@
 -- `kernel::row_sum` meets its contract: after n turns c is the sum of the first n chosen rows. Assumes nothing.
-use mathlib.Core.Path.{_≡_, sym, _∙_}
+use mathlib.Core.Path.{sym, _∙_}
 use mathlib.Core.Logic.{⊎-elim}
-use Prim.Native.Nat.{_+_, _-_, _≤_, _<_, _^_}
-use native.Mathlib.Omega.{arith}
+use Prim.Native.Nat.{_-_, _≤_, _<_, _^_}
 use lib.Bits.{xor-lt}
 use lib.ListN.{getD}
 use mir.Val.{Fits}
