@@ -4,7 +4,7 @@ use mathlib.Core.List.{List, [], _∷_, _++_}
 use Prim.Native.Nat.{ℕ}
 use lib.ListN.{length, drop}
 use Rattle.answer.specs.declared.Answer.{Answer}
-use Rattle.answer.specs.declared.Answer.the-variants.{Done, Word, Kernel, Length, Mask, Payload, Output, Value, Amplitude, Size, Frozen}
+use Rattle.answer.specs.declared.Answer.the-variants.{Done, Word, NoKernel, WrongLength, BadMask, WrongPayload, ShortOutput, ValueOutOfRange, NotFinite, WrongSize, FrozenOne}
 
 -- Accepted and done, accepted with a word, or refused with the number and the place of a condition.
 pub data Verdict : Type 0 where
@@ -16,15 +16,15 @@ pub data Verdict : Type 0 where
 abbrev pub verdict : Answer → Verdict
 verdict Done = done
 verdict (Word w) = word w
-verdict Kernel = refused 1 0
-verdict Length = refused 2 0
-verdict Mask = refused 3 0
-verdict Payload = refused 4 0
-verdict Output = refused 5 0
-verdict (Value i) = refused 6 i
-verdict (Amplitude i) = refused 7 i
-verdict Size = refused 8 0
-verdict (Frozen i) = refused 9 i
+verdict NoKernel = refused 1 0
+verdict WrongLength = refused 2 0
+verdict BadMask = refused 3 0
+verdict WrongPayload = refused 4 0
+verdict ShortOutput = refused 5 0
+verdict (ValueOutOfRange i) = refused 6 i
+verdict (NotFinite i) = refused 7 i
+verdict WrongSize = refused 8 0
+verdict (FrozenOne i) = refused 9 i
 
 -- Its number, 0 if accepted.
 abbrev pub numberOf : Verdict → ℕ
@@ -63,7 +63,7 @@ condition n b = record { holds = b; number = n; place = 0 }
 abbrev pub conditionAt : ℕ → ℕ → Bool → Check
 conditionAt n i b = record { holds = b; number = n; place = i }
 
--- One check before what is said otherwise.
+-- The refusal of a check that holds; where it does not hold, v.
 abbrev pub unless : Check → Verdict → Verdict
 unless c v = elim (c .holds) [ true ↦ refused (c .number) (c .place) | false ↦ v ]
 

@@ -6,15 +6,15 @@ ghost use Rattle.answer.specs.Verdict.{verdict, isAccepted, numberOf, pl
 pub enum Answer {
     Done,
     Word(u16),
-    Kernel,
-    Length,
-    Mask,
-    Payload,
-    Output,
-    Value(usize),
-    Amplitude(usize),
-    Size,
-    Frozen(usize),
+    NoKernel,
+    WrongLength,
+    BadMask,
+    WrongPayload,
+    ShortOutput,
+    ValueOutOfRange(usize),
+    NotFinite(usize),
+    WrongSize,
+    FrozenOne(usize),
 }
 
 // Whether the job was accepted.
@@ -24,15 +24,15 @@ pub fn accepted(a: Answer) -> bool
     match a {
         Answer::Done => true,
         Answer::Word(_) => true,
-        Answer::Kernel => false,
-        Answer::Length => false,
-        Answer::Mask => false,
-        Answer::Payload => false,
-        Answer::Output => false,
-        Answer::Value(_) => false,
-        Answer::Amplitude(_) => false,
-        Answer::Size => false,
-        Answer::Frozen(_) => false,
+        Answer::NoKernel => false,
+        Answer::WrongLength => false,
+        Answer::BadMask => false,
+        Answer::WrongPayload => false,
+        Answer::ShortOutput => false,
+        Answer::ValueOutOfRange(_) => false,
+        Answer::NotFinite(_) => false,
+        Answer::WrongSize => false,
+        Answer::FrozenOne(_) => false,
     }
 }
 
@@ -43,15 +43,15 @@ pub fn number(a: Answer) -> u8
     match a {
         Answer::Done => 0,
         Answer::Word(_) => 0,
-        Answer::Kernel => 1,
-        Answer::Length => 2,
-        Answer::Mask => 3,
-        Answer::Payload => 4,
-        Answer::Output => 5,
-        Answer::Value(_) => 6,
-        Answer::Amplitude(_) => 7,
-        Answer::Size => 8,
-        Answer::Frozen(_) => 9,
+        Answer::NoKernel => 1,
+        Answer::WrongLength => 2,
+        Answer::BadMask => 3,
+        Answer::WrongPayload => 4,
+        Answer::ShortOutput => 5,
+        Answer::ValueOutOfRange(_) => 6,
+        Answer::NotFinite(_) => 7,
+        Answer::WrongSize => 8,
+        Answer::FrozenOne(_) => 9,
     }
 }
 
@@ -62,15 +62,15 @@ pub fn place(a: Answer) -> usize
     match a {
         Answer::Done => 0,
         Answer::Word(_) => 0,
-        Answer::Kernel => 0,
-        Answer::Length => 0,
-        Answer::Mask => 0,
-        Answer::Payload => 0,
-        Answer::Output => 0,
-        Answer::Value(i) => i,
-        Answer::Amplitude(i) => i,
-        Answer::Size => 0,
-        Answer::Frozen(i) => i,
+        Answer::NoKernel => 0,
+        Answer::WrongLength => 0,
+        Answer::BadMask => 0,
+        Answer::WrongPayload => 0,
+        Answer::ShortOutput => 0,
+        Answer::ValueOutOfRange(i) => i,
+        Answer::NotFinite(i) => i,
+        Answer::WrongSize => 0,
+        Answer::FrozenOne(i) => i,
     }
 }
 
@@ -81,14 +81,14 @@ pub fn word(a: Answer) -> u16
     match a {
         Answer::Done => 0,
         Answer::Word(w) => w,
-        Answer::Kernel => 0,
-        Answer::Length => 0,
-        Answer::Mask => 0,
-        Answer::Payload => 0,
-        Answer::Output => 0,
-        Answer::Value(_) => 0,
-        Answer::Amplitude(_) => 0,
-        Answer::Size => 0,
-        Answer::Frozen(_) => 0,
+        Answer::NoKernel => 0,
+        Answer::WrongLength => 0,
+        Answer::BadMask => 0,
+        Answer::WrongPayload => 0,
+        Answer::ShortOutput => 0,
+        Answer::ValueOutOfRange(_) => 0,
+        Answer::NotFinite(_) => 0,
+        Answer::WrongSize => 0,
+        Answer::FrozenOne(_) => 0,
     }
 }

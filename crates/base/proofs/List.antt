@@ -6,7 +6,7 @@ use Prim.Native.Nat.{ℕ, zero, suc, _+_, _<_}
 use native.Mathlib.Nat.{suc-add, zero-add, suc-inj}
 use native.Mathlib.Omega.{arith}
 use lib.ListN.{length, getD}
-use Rattle.base.specs.Bit.{_⊕_, bit, tabulate, agree, the}
+use Rattle.base.specs.Bit.{_⊕_, bit, tabulate, same, find}
 use Rattle.base.proofs.Bool.{⊕-same, ⊕-self}
 
 pub length-tabulate {ℓ} : {X : Type ℓ} (n : ℕ) (f : ℕ → X) → length (tabulate n f) ≡ n
@@ -43,47 +43,47 @@ unfolding tabulate
 tabulate-bits [] = refl
 tabulate-bits (b ∷ u) = ap (λ (l : List Bool). b ∷ l) (tabulate-bits u)
 
-pub agree-same : (u v : List Bool) → agree u v ≡ true → u ≡ v
-unfolding agree
-agree-same [] [] t = refl
-agree-same [] (b ∷ v) t = absurd (false≢true t)
-agree-same (a ∷ u) [] t = absurd (false≢true t)
-agree-same (a ∷ u) (b ∷ v) t =
-    let h = (and-eq-true-iff (not (a ⊕ b)) (agree u v)) .0 t in
-    ap₂ (λ c (l : List Bool). c ∷ l) (⊕-same a b (h .0)) (agree-same u v (h .1))
+pub same-eq : (u v : List Bool) → same u v ≡ true → u ≡ v
+unfolding same
+same-eq [] [] t = refl
+same-eq [] (b ∷ v) t = absurd (false≢true t)
+same-eq (a ∷ u) [] t = absurd (false≢true t)
+same-eq (a ∷ u) (b ∷ v) t =
+    let h = (and-eq-true-iff (not (a ⊕ b)) (same u v)) .0 t in
+    ap₂ (λ c (l : List Bool). c ∷ l) (⊕-same a b (h .0)) (same-eq u v (h .1))
 
-pub agree-self : (u : List Bool) → agree u u ≡ true
-unfolding agree
-agree-self [] = refl
-agree-self (a ∷ u) = (and-eq-true-iff (not (a ⊕ a)) (agree u u)) .1 (⊕-self a, agree-self u)
+pub same-self : (u : List Bool) → same u u ≡ true
+unfolding same
+same-self [] = refl
+same-self (a ∷ u) = (and-eq-true-iff (not (a ⊕ a)) (same u u)) .1 (⊕-self a, same-self u)
 
-pub length-the : (n : ℕ) (f : List Bool → Bool) → length (the n f) ≡ n
-unfolding the
-length-the zero f = refl
-length-the (suc n) f = go (f (false ∷ the n (λ u. f (false ∷ u)))) (length-the n (λ u. f (false ∷ u))) (length-the n (λ u. f (true ∷ u)))
+pub length-find : (n : ℕ) (f : List Bool → Bool) → length (find n f) ≡ n
+unfolding find
+length-find zero f = refl
+length-find (suc n) f = go (f (false ∷ find n (λ u. f (false ∷ u)))) (length-find n (λ u. f (false ∷ u))) (length-find n (λ u. f (true ∷ u)))
   where
-    go : (c : Bool) → length (the n (λ u. f (false ∷ u))) ≡ n → length (the n (λ u. f (true ∷ u))) ≡ n
-        → length {A = Bool} (elim c [ true ↦ false ∷ the n (λ u. f (false ∷ u)) | false ↦ true ∷ the n (λ u. f (true ∷ u)) ]) ≡ suc n
+    go : (c : Bool) → length (find n (λ u. f (false ∷ u))) ≡ n → length (find n (λ u. f (true ∷ u))) ≡ n
+        → length {A = Bool} (elim c [ true ↦ false ∷ find n (λ u. f (false ∷ u)) | false ↦ true ∷ find n (λ u. f (true ∷ u)) ]) ≡ suc n
     go true p q = ap suc p
     go false p q = ap suc q
 
 -- Where f holds of some list, it holds of the one that the search finds.
-pub the-holds : (n : ℕ) (f : List Bool → Bool) (u : List Bool) → length u ≡ n → f u ≡ true → f (the n f) ≡ true
-unfolding the
-the-holds zero f [] e t = t
-the-holds zero f (b ∷ u) e t = absurd (omega arith)
-the-holds (suc n) f [] e t = absurd (omega arith)
-the-holds (suc n) f (b ∷ u) e t =
-    go b (λ g. the-holds n g u (suc-inj e)) t (f (false ∷ the n (λ u. f (false ∷ u)))) refl
+pub find-holds : (n : ℕ) (f : List Bool → Bool) (u : List Bool) → length u ≡ n → f u ≡ true → f (find n f) ≡ true
+unfolding find
+find-holds zero f [] e t = t
+find-holds zero f (b ∷ u) e t = absurd (omega arith)
+find-holds (suc n) f [] e t = absurd (omega arith)
+find-holds (suc n) f (b ∷ u) e t =
+    go b (λ g. find-holds n g u (suc-inj e)) t (f (false ∷ find n (λ u. f (false ∷ u)))) refl
   where
-    go : (b : Bool) → ((g : List Bool → Bool) → g u ≡ true → g (the n g) ≡ true) → f (b ∷ u) ≡ true
-        → (c : Bool) → f (false ∷ the n (λ u. f (false ∷ u))) ≡ c
-        → f (elim c [ true ↦ false ∷ the n (λ u. f (false ∷ u)) | false ↦ true ∷ the n (λ u. f (true ∷ u)) ]) ≡ true
+    go : (b : Bool) → ((g : List Bool → Bool) → g u ≡ true → g (find n g) ≡ true) → f (b ∷ u) ≡ true
+        → (c : Bool) → f (false ∷ find n (λ u. f (false ∷ u))) ≡ c
+        → f (elim c [ true ↦ false ∷ find n (λ u. f (false ∷ u)) | false ↦ true ∷ find n (λ u. f (true ∷ u)) ]) ≡ true
     go b ih t true p = p
     go true ih t false p = ih (λ u. f (true ∷ u)) t
     go false ih t false p = absurd (false≢true (sym p ∙ ih (λ u. f (false ∷ u)) t))
 
 -- Where f holds of one list only, the search finds that one.
-pub the-only : (n : ℕ) (f : List Bool → Bool) (u : List Bool) → length u ≡ n → f u ≡ true
-    → ((v : List Bool) → length v ≡ n → f v ≡ true → v ≡ u) → the n f ≡ u
-the-only n f u e t only = only (the n f) (length-the n f) (the-holds n f u e t)
+pub find-only : (n : ℕ) (f : List Bool → Bool) (u : List Bool) → length u ≡ n → f u ≡ true
+    → ((v : List Bool) → length v ≡ n → f v ≡ true → v ≡ u) → find n f ≡ u
+find-only n f u e t only = only (find n f) (length-find n f) (find-holds n f u e t)

@@ -30,15 +30,15 @@ every zero f = true
 every (suc n) f = f zero && every n (λ i. f (suc i))
 
 -- Whether two lists of bits are the same.
-unfoldable pub agree : List Bool → List Bool → Bool
-agree [] [] = true
-agree [] (b ∷ v) = false
-agree (a ∷ u) [] = false
-agree (a ∷ u) (b ∷ v) = not (a ⊕ b) && agree u v
+unfoldable pub same : List Bool → List Bool → Bool
+same [] [] = true
+same [] (b ∷ v) = false
+same (a ∷ u) [] = false
+same (a ∷ u) (b ∷ v) = not (a ⊕ b) && same u v
 
 -- The first list of n bits, in rising order, of which f holds; n ones where there is none.
-unfoldable pub the : ℕ → (List Bool → Bool) → List Bool
-the zero f = []
-the (suc n) f =
-    let t = the n (λ u. f (false ∷ u)) in
-    elim (f (false ∷ t)) [ true ↦ false ∷ t | false ↦ true ∷ the n (λ u. f (true ∷ u)) ]
+unfoldable pub find : ℕ → (List Bool → Bool) → List Bool
+find zero f = []
+find (suc n) f =
+    let t = find n (λ u. f (false ∷ u)) in
+    elim (f (false ∷ t)) [ true ↦ false ∷ t | false ↦ true ∷ find n (λ u. f (true ∷ u)) ]

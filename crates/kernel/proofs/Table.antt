@@ -11,49 +11,49 @@ use Rattle.bits.specs.Packed.{bits, number}
 use Rattle.bits.proofs.Packed.{length-bits}
 use Rattle.polar.specs.Kernel.{product}
 use Rattle.polar.specs.Relation.{row}
-use Rattle.polar.proofs.Relation.{names, uses, word-product, row-product, untied-product, length-untied}
+use Rattle.polar.proofs.Relation.{names, uses, word-product, row-product, symbols-product, length-symbolsBy}
 use Rattle.kernel.specs.Kernels.{F, relations, symbolsOf}
 use Rattle.kernel.specs.Rows.{rowBit, rowSum, table, inverseTable}
 use Rattle.kernel.specs.Jobs.{encoded, undone}
-use Rattle.kernel.proofs.Solved.{answers, solution}
+use Rattle.kernel.proofs.Solved.{solved, solution}
 
 -- Whether each bit of a table is what g says.
-unfoldable agrees : List (List ℕ) → (ℕ → ℕ → ℕ → Bool) → Bool
-agrees T g = every 3 (λ k. every 16 (λ s. every 16 (λ j. not (rowBit (getD T k []) s j ⊕ g k s j))))
+unfoldable tableTest : List (List ℕ) → (ℕ → ℕ → ℕ → Bool) → Bool
+tableTest T g = every 3 (λ k. every 16 (λ s. every 16 (λ j. not (rowBit (getD T k []) s j ⊕ g k s j))))
 
-agrees-at : (T : List (List ℕ)) (g : ℕ → ℕ → ℕ → Bool) → agrees T g ≡ true → (k s j : ℕ) → k < 3 → s < 16 → j < 16
+table-at : (T : List (List ℕ)) (g : ℕ → ℕ → ℕ → Bool) → tableTest T g ≡ true → (k s j : ℕ) → k < 3 → s < 16 → j < 16
     → rowBit (getD T k []) s j ≡ g k s j
-unfolding agrees
-agrees-at T g t k s j lk ls lj = ⊕-same _ _ (every-at 16 _ (every-at 16 _ (every-at 3 _ t k lk) s ls) j lj)
+unfolding tableTest
+table-at T g t k s j lk ls lj = ⊕-same _ _ (every-at 16 _ (every-at 16 _ (every-at 3 _ t k lk) s ls) j lj)
 
-table-checked : agrees table (λ k. product 16 (uses (answers k)) F) ≡ true
-unfolding agrees bits F relations answers uses names every parity
+table-checked : tableTest table (λ k. product 16 (uses (solved k)) F) ≡ true
+unfolding tableTest bits F relations solved uses names every parity
 table-checked = refl
 
-inverse-checked : agrees inverseTable (λ k. product 16 F (uses (relations k))) ≡ true
-unfolding agrees bits F relations uses names every parity
+inverse-checked : tableTest inverseTable (λ k. product 16 F (uses (relations k))) ≡ true
+unfolding tableTest bits F relations uses names every parity
 inverse-checked = refl
 
 -- Row s of the table is the word with only symbol s set.
 pub table-row : (k s j : ℕ) → k < 3 → s < 16 → j < 16 → rowBit (getD table k []) s j ≡ row F (relations k) s j
 table-row k s j lk ls lj =
-    agrees-at table (λ k. product 16 (uses (answers k)) F) table-checked k s j lk ls lj
-    ∙ sym (row-product 16 F F (relations k) (answers k) (solution k) s j ls)
+    table-at table (λ k. product 16 (uses (solved k)) F) table-checked k s j lk ls lj
+    ∙ sym (row-product 16 F F (relations k) (solved k) (solution k) s j ls)
 
 -- A word is the sum of the table's rows,
 pub encoded-rows : (k u : ℕ) → k < 3 → rowSum (getD table k []) u ≡ encoded k u
 unfolding rowSum encoded
 encoded-rows k u lk =
     ap number (tabulate-cong 16 (λ j lj.
-    parity-cong 16 (λ s ls. ap (λ b. bit (bits 16 u) s && b) (agrees-at table (λ k. product 16 (uses (answers k)) F) table-checked k s j lk ls lj))
-    ∙ sym (word-product 16 F F (relations k) (answers k) (solution k) (bits 16 u) (length-bits 16 u) j)))
+    parity-cong 16 (λ s ls. ap (λ b. bit (bits 16 u) s && b) (table-at table (λ k. product 16 (uses (solved k)) F) table-checked k s j lk ls lj))
+    ∙ sym (word-product 16 F F (relations k) (solved k) (solution k) (bits 16 u) (length-bits 16 u) j)))
 
--- and its symbols are that of the inverse's.
+-- and its symbols are the sum of the inverse's.
 pub undone-rows : (k c : ℕ) → k < 3 → rowSum (getD inverseTable k []) c ≡ undone k c
 unfolding rowSum undone
 undone-rows k c lk =
     ap number (tabulate-cong 16 (λ s ls.
-    parity-cong 16 (λ j lj. ap (λ b. bit (bits 16 c) j && b) (agrees-at inverseTable (λ k. product 16 F (uses (relations k))) inverse-checked k j s lk lj ls))
-    ∙ sym (untied-product 16 F F (relations k) (answers k) (solution k) (bits 16 c) (length-bits 16 c) s ls))
-    ∙ ap (λ n. tabulate n (bit (symbolsOf k (bits 16 c)))) (sym (length-untied 16 F F (relations k) (answers k) (solution k) (bits 16 c)))
+    parity-cong 16 (λ j lj. ap (λ b. bit (bits 16 c) j && b) (table-at inverseTable (λ k. product 16 F (uses (relations k))) inverse-checked k j s lk lj ls))
+    ∙ sym (symbols-product 16 F F (relations k) (solved k) (solution k) (bits 16 c) (length-bits 16 c) s ls))
+    ∙ ap (λ n. tabulate n (bit (symbolsOf k (bits 16 c)))) (sym (length-symbolsBy 16 F F (relations k) (solved k) (solution k) (bits 16 c)))
     ∙ tabulate-bits (symbolsOf k (bits 16 c)))

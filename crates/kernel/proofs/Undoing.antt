@@ -9,25 +9,30 @@ use Rattle.base.proofs.List.{length-tabulate}
 use Rattle.bits.specs.Packed.{bits, number}
 use Rattle.bits.proofs.Packed.{length-bits, bits-number, number-lt, number-bits-fit}
 use Rattle.answer.specs.Verdict.{word, wordOf}
+use Rattle.polar.specs.Kernel.{code}
 use Rattle.polar.specs.Relation.{symbols, tied}
-use Rattle.polar.proofs.Relation.{symbols-tied, length-tied, one-v, word-symbols, untied-word, word-untied, length-untied}
-use Rattle.kernel.specs.Kernels.{F, relations, wordBit, symbolsOf}
+use Rattle.polar.proofs.Relation.{symbols-tied, length-tied, one-v, word-symbols, word-rows, symbols-of-word, word-of-symbols, length-symbolsBy}
+use Rattle.kernel.specs.Kernels.{F, relations, wordBit, symbolsOf, kernel}
 use Rattle.kernel.specs.Jobs.{isKernel, checks, encoded, undone, kernelEncode, kernelUndo}
-use Rattle.kernel.proofs.Solved.{answers, solution}
+use Rattle.kernel.proofs.Solved.{solved, solution}
 
 module _ (k : ℕ) where
   -- The word of the symbols that the relations give for v is vF.
   pub word-of-v : (v : List Bool) → length v ≡ 16 → (j : ℕ) → wordBit k (symbols (relations k) v) j ≡ parity 16 (λ i. bit v i && F i j)
-  word-of-v = word-symbols 16 F F (relations k) (answers k) (solution k)
+  word-of-v = word-symbols 16 F F (relations k) (solved k) (solution k)
 
   -- Every u belongs to some v,
   pub some-v : (u : List Bool) → length u ≡ 16 → (v : List Bool) × (length v ≡ 16) × (symbols (relations k) v ≡ u)
   some-v u e =
-      (tied (relations k) u, length-tied 16 F F (relations k) (answers k) (solution k) u, symbols-tied 16 F F (relations k) (answers k) (solution k) u e)
+      (tied (relations k) u, length-tied 16 F F (relations k) (solved k) (solution k) u, symbols-tied 16 F F (relations k) (solved k) (solution k) u e)
 
   -- and to one only.
   pub only-v : (v w : List Bool) → length v ≡ 16 → length w ≡ 16 → symbols (relations k) v ≡ symbols (relations k) w → v ≡ w
-  only-v = one-v 16 F F (relations k) (answers k) (solution k)
+  only-v = one-v 16 F F (relations k) (solved k) (solution k)
+
+  -- The kernel as a matrix has the same words: sums of its rows.
+  pub code-word : (u : List Bool) → length u ≡ 16 → (j : ℕ) → (code (kernel k)) .word u j ≡ wordBit k u j
+  code-word u e j = sym (word-rows 16 F F (relations k) (solved k) (solution k) u e j)
 
   fits : (l : List Bool) → length l ≡ 16 → bits 16 (number l) ≡ l
   fits l e = ap (λ n. bits n (number l)) (sym e) ∙ bits-number l
@@ -41,7 +46,7 @@ module _ (k : ℕ) where
   pub undone-fits : (c : ℕ) → undone k c < 2 ^ 16
   unfolding undone
   undone-fits c =
-      rw (length-untied 16 F F (relations k) (answers k) (solution k) (bits 16 c)) at (number-lt (symbolsOf k (bits 16 c)))
+      rw (length-symbolsBy 16 F F (relations k) (solved k) (solution k) (bits 16 c)) at (number-lt (symbolsOf k (bits 16 c)))
 
   -- Undo of encode, over all symbols,
   pub undone-encoded : (u : ℕ) → u < 2 ^ 16 → undone k (encoded k u) ≡ u
@@ -49,7 +54,7 @@ module _ (k : ℕ) where
   undone-encoded u h =
       let l = tabulate 16 (wordBit k (bits 16 u)) in
       ap (λ c. number (symbolsOf k c)) (fits l (length-tabulate 16 _))
-      ∙ ap number (untied-word 16 F F (relations k) (answers k) (solution k) (bits 16 u) (length-bits 16 u))
+      ∙ ap number (symbols-of-word 16 F F (relations k) (solved k) (solution k) (bits 16 u) (length-bits 16 u))
       ∙ number-bits-fit 16 u h
 
   -- and encode of undo, over all words.
@@ -57,8 +62,8 @@ module _ (k : ℕ) where
   unfolding encoded undone
   encoded-undone c h =
       let u = symbolsOf k (bits 16 c) in
-      ap (λ l. number (tabulate 16 (wordBit k l))) (fits u (length-untied 16 F F (relations k) (answers k) (solution k) (bits 16 c)))
-      ∙ ap number (word-untied 16 F F (relations k) (answers k) (solution k) (bits 16 c) (length-bits 16 c))
+      ap (λ l. number (tabulate 16 (wordBit k l))) (fits u (length-symbolsBy 16 F F (relations k) (solved k) (solution k) (bits 16 c)))
+      ∙ ap number (word-of-symbols 16 F F (relations k) (solved k) (solution k) (bits 16 c) (length-bits 16 c))
       ∙ number-bits-fit 16 c h
 
   -- The same of the two jobs.

@@ -5,13 +5,14 @@ use Prim.Native.Nat.{ℕ, zero, suc, _/_, _^_}
 use Rattle.base.specs.Bit.{every}
 use Rattle.bits.specs.Packed.{odd}
 use Rattle.polar.specs.Kernel.{Kernel}
-use Rattle.polar.specs.Relation.{Relation, tiedWord, untied, row}
+use Rattle.polar.specs.Relation.{Relation, wordBy, symbolsBy, row}
 
 -- F[i][j] = 1 exactly if every set bit of j is set in i, for i and j of four bits.
 unfoldable pub F : ℕ → ℕ → Bool
 F i j = every 4 (λ b. not (odd (j / 2 ^ b)) || odd (i / 2 ^ b))
 
--- The relations of kernels 0, 1 and 2: u0 to u15 as sums of v. (Every other number is refused before it is looked up.)
+-- The relations of kernels 0, 1 and 2: u0 to u15 as sums of v. A number above 2 names none of them: here it stands for
+-- kernel 2, so that laws need no premise, and every job refuses it.
 unfoldable pub relations : ℕ → List Relation
 relations zero =
     (0 ∷ []) ∷ (1 ∷ []) ∷ (2 ∷ []) ∷ (3 ∷ []) ∷ (4 ∷ []) ∷ (5 ∷ []) ∷ (6 ∷ []) ∷ (7 ∷ [])
@@ -25,11 +26,11 @@ relations (suc (suc k)) =
 
 -- Bit j of the word of the symbols u: of vF, for the v that the relations tie to u.
 abbrev pub wordBit : ℕ → List Bool → ℕ → Bool
-wordBit k u j = tiedWord F (relations k) u j
+wordBit k u j = wordBy F (relations k) u j
 
 -- The symbols of a word: those whose word it is.
 abbrev pub symbolsOf : ℕ → List Bool → List Bool
-symbolsOf k c = untied F (relations k) c
+symbolsOf k c = symbolsBy F (relations k) c
 
 -- The kernel as a matrix: row s is the word with only symbol s set.
 abbrev pub kernel : ℕ → Kernel

@@ -148,7 +148,7 @@ pub fn kernel_encode(kernel: u8, symbols: u16) -> Answer
     ensures { λ r. ⌜ verdict r ≡ kernelEncode kernel symbols ⌝ }
 {
     if !is_kernel(kernel) {
-        return Answer::Kernel;
+        return Answer::NoKernel;
     }
     let rows = ROWS[kernel as usize];
     Answer::Word(row_sum(rows, symbols))
@@ -159,7 +159,7 @@ pub fn kernel_undo(kernel: u8, word: u16) -> Answer
     ensures { λ r. ⌜ verdict r ≡ kernelUndo kernel word ⌝ }
 {
     if !is_kernel(kernel) {
-        return Answer::Kernel;
+        return Answer::NoKernel;
     }
     let rows = INVERSE_ROWS[kernel as usize];
     Answer::Word(row_sum(rows, word))

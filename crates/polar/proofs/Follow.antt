@@ -1,6 +1,6 @@
 -- Laws of the scores, the penalties and the decoder's symbols of a whole list. Assumes nothing.
 use mathlib.Core.Path.{_≡_, refl, sym, ap, ap₂, _∙_}
-use mathlib.Core.Bool.{Bool, false}
+use mathlib.Core.Bool.{Bool, true, false}
 use mathlib.Core.List.{List, [], _∷_, _++_, append-assoc, append-nil}
 use Prim.Native.Nat.{ℕ, zero, suc, _+_, _*_, _≤_, _<_}
 use native.Mathlib.Nat.{add-zero, zero-add, suc-add, suc-mul}
@@ -9,7 +9,9 @@ use native.Mathlib.Decide.{decLt}
 use native.Mathlib.Omega.{arith}
 use lib.ListN.{length, getD, take, length-append}
 use lib.Seq.{take-suc, take-take, take-all, take-append-le, take-append-seam, getD-append-seam, getD-take, length-take-le}
-use lib.IntN.{ℤ}
+use lib.Dec.{ltb→lt}
+use lib.IntN.{ℤ, pos, negsuc}
+use lib.Signed.{_≤ℤ_, _<ℤ_}
 use Rattle.base.specs.Bit.{bit, tabulate}
 use Rattle.base.proofs.List.{length-tabulate, tabulate-at, tabulate-next}
 use Rattle.polar.specs.Code.{Code, Costs, pay, least, score, Onto}
@@ -64,6 +66,20 @@ penalty-runs C m u i l lu =
     ∙ penalty-next C m (take i u) (bit u i) (omega (arith, length-take-le i u (omega arith)))
 
 -- ---- the decoder
+
+-- The decoder's rule in the paper's words: at a marked phase 0 where the score is 0 or more,
+pub choose-zero : (s : ℤ) → pos 0 ≤ℤ s → choose true s ≡ false
+choose-zero (pos y) h = refl
+choose-zero (negsuc y) h = absurd (h .le)
+
+-- else 1;
+pub choose-one : (s : ℤ) → s <ℤ pos 0 → choose true s ≡ true
+choose-one (pos y) h = absurd (omega (arith, ltb→lt y 0 (h .lt)))
+choose-one (negsuc y) h = refl
+
+-- at any other phase 0.
+pub choose-frozen : (s : ℤ) → choose false s ≡ false
+choose-frozen s = refl
 
 -- Some phases, and then others.
 pub decode-add : (C : Code) (m : Costs) (mask : ℕ → Bool) (k l : ℕ) (q : List Bool)

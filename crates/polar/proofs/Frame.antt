@@ -8,7 +8,7 @@ use lib.ListN.{length, take, drop}
 use lib.Seq.{getD-take, getD-drop}
 use Rattle.base.specs.Bit.{bit, parity}
 use Rattle.base.proofs.Bool.{parity-cong, parity-and, parity-blocks}
-use Rattle.polar.specs.Code.{Code, Costs, least, score, Onto, Undoes}
+use Rattle.polar.specs.Code.{Code, Costs, least, score, Onto, UndoneBy}
 use Rattle.polar.specs.Kernel.{matrix, Kernel, code, Invertible, inverted}
 use Rattle.polar.specs.Frame.{frame, layers}
 use Rattle.polar.specs.Stages.{rows, staged, pairs, soft}
@@ -70,7 +70,7 @@ frame-layers A B =
     (stages-matrix (A .dim) (A .dim) (B .dim) (B .dim) (A .entry) (B .entry))
 
 -- The frame of the inverses with the layers exchanged undoes a frame.
-pub frame-undo : (A B : Kernel) (a : Invertible A) (b : Invertible B) → Undoes (frame A B) (frame (inverted B b) (inverted A a))
+pub frame-undo : (A B : Kernel) (a : Invertible A) (b : Invertible B) → UndoneBy (frame A B) (frame (inverted B b) (inverted A a))
 frame-undo A B a b =
     rw (frame-staged A B, frame-staged (inverted B b) (inverted A a))
     (staged-undo (code A) (code B) (code (inverted A a)) (code (inverted B b)) ((coder A a) .undo) ((coder B b) .undo))

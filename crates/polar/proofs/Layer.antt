@@ -92,24 +92,44 @@ pub pos-right : (x a n : ℕ) → x < a * n → 0 < n
 pos-right x a zero l = absurd (omega (arith, mul-zero a))
 pos-right x a (suc n) l = omega arith
 
--- The same of the symbols q so far and one more, b.
+-- The symbols q so far as whole rows and a part of the next: r rows of n, of N.
+pub record Parted (n N r : ℕ) (q : List Bool) : Type 0 where
+  pub whole : take (r * n) q ++ drop (r * n) q ≡ q
+  pub row-count : length (take (r * n) q) ≡ r * n
+  pub in-frame : r < N
+  pub in-row : length (drop (r * n) q) < n
+  pub same-rows : rows n r (take (r * n) q) ≡ rows n r q
+
+pub parted : (n N : ℕ) (q : List Bool) → length q < N * n → Parted n N (length q / n) q
+parted n N q l = go (length q / n) (omega (arith, div-add-mod' (length q) n)) (lt-div-mul-add pos) ((div-lt-iff-lt-mul pos) .1 l)
+  where
+    pos : 0 < n
+    pos = pos-right (length q) N n l
+
+    go : (r : ℕ) → r * n ≤ length q → length q < r * n + n → r < N → Parted n N r q
+    go r low high lr = record {
+      whole = take-append-drop (r * n) q;
+      row-count = length-take-le (r * n) q low;
+      in-frame = lr;
+      in-row = rw length-drop (omega arith);
+      same-rows = rows-take n r q low;
+    }
+
+-- The layer theorem for the symbols q so far and one more, b.
 pub layer-next : (A B : Code) → Onto A → (m : Costs) (q : List Bool) (b : Bool) → length q < B .size * A .size
     → least (staged A B) m (q ++ (b ∷ []))
     ≡ least A (pairs A B m (rows (A .size) (length q / A .size) q)) (drop (length q / A .size * A .size) q ++ (b ∷ []))
-layer-next A B onto m q b l = go (length q / A .size) (omega (arith, div-add-mod' (length q) (A .size))) (lt-div-mul-add pos) ((div-lt-iff-lt-mul pos) .1 l)
+layer-next A B onto m q b l = go (length q / A .size) (parted (A .size) (B .size) q l)
   where
-    pos : 0 < A .size
-    pos = pos-right (length q) (B .size) (A .size) l
-
-    go : (r : ℕ) → r * A .size ≤ length q → length q < r * A .size + A .size → r < B .size
+    go : (r : ℕ) → Parted (A .size) (B .size) r q
         → least (staged A B) m (q ++ (b ∷ [])) ≡ least A (pairs A B m (rows (A .size) r q)) (drop (r * A .size) q ++ (b ∷ []))
-    go r low high lr =
+    go r c =
         let u = take (r * A .size) q in
         let p = drop (r * A .size) q in
-        ap (λ v. least (staged A B) m (v ++ (b ∷ []))) (sym (take-append-drop (r * A .size) q))
+        ap (λ v. least (staged A B) m (v ++ (b ∷ []))) (sym (c .whole))
         ∙ ap (least (staged A B) m) (append-assoc u p (b ∷ []))
-        ∙ layer A onto B m r u (p ++ (b ∷ [])) (length-take-le _ q low) lr (simp (length-append, length-drop) (omega arith))
-        ∙ ap (λ U. least A (pairs A B m U) (p ++ (b ∷ []))) (rows-take (A .size) r q low)
+        ∙ layer A onto B m r u (p ++ (b ∷ [])) (c .row-count) (c .in-frame) (rw length-append (omega (arith, c .in-row)))
+        ∙ ap (λ U. least A (pairs A B m U) (p ++ (b ∷ []))) (c .same-rows)
 
 -- One more row, one more bit in each column.
 pub column-next : (A : Code) (r : ℕ) (u v : List Bool) (j : ℕ) → length u ≡ r * A .size → length v ≡ A .size

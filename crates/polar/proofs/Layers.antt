@@ -8,13 +8,12 @@ use native.Mathlib.Omega.{arith}
 use lib.ListN.{length, drop, length-drop}
 use lib.IntN.{ℤ, subℕ}
 use Rattle.base.specs.Bit.{bit, parity}
-use Rattle.polar.specs.Code.{Code, Costs, pay, least, score, Onto, Undoes}
+use Rattle.polar.specs.Code.{Code, Costs, pay, least, score, Onto, UndoneBy}
 use Rattle.polar.specs.Kernel.{Kernel, code, Invertible}
 use Rattle.polar.specs.Frame.{extent, factor, layers}
 use Rattle.polar.specs.Stages.{rows, staged, pairs, soft}
-use Rattle.polar.proofs.Layer.{layer-next, pos-right}
-use Rattle.polar.proofs.Least.{score-least}
-use Rattle.polar.proofs.Values.{score-values, value-pairs}
+use Rattle.polar.proofs.Layer.{parted, layer-next}
+use Rattle.polar.proofs.Values.{layer-scores-next}
 use Rattle.polar.proofs.Undo.{Coder, coder-onto, layered}
 use Rattle.polar.proofs.Matrix.{coder}
 use Rattle.polar.proofs.Frame.{same-code, stages-matrix}
@@ -23,11 +22,6 @@ use Rattle.polar.proofs.Frame.{same-code, stages-matrix}
 abbrev pub tower : (ℕ → Coder) → ℕ → Coder
 tower K zero = K zero
 tower K (suc m) = layered (tower K m) (K (suc m))
-
--- How far into the frame of the layers below the symbols q reach.
-below : (A B : Code) (q : List Bool) → length q < B .size * A .size → length (drop (length q / A .size * A .size) q) < A .size
-below A B q l =
-    rw length-drop (omega (arith, lt-div-mul-add {a = length q} (pos-right (length q) (B .size) (A .size) l), div-add-mod' (length q) (A .size)))
 
 -- The least after the symbols q and b: each outer layer turns the costs of its places into costs of the places of the frame inside it.
 unfoldable pub leastBy : (ℕ → Coder) → ℕ → Costs → List Bool → Bool → ℕ
@@ -38,16 +32,16 @@ leastBy K (suc m) c q b =
     leastBy K m (pairs A ((K (suc m)) .enc) c (rows (A .size) r q)) (drop (r * A .size) q) b
 
 -- The layer theorem in least totals, for any number of layers.
-pub layers-least : (K : ℕ → Coder) (m : ℕ) (c : Costs) (q : List Bool) (b : Bool) → length q < (tower K m) .enc .size
+pub tower-least : (K : ℕ → Coder) (m : ℕ) (c : Costs) (q : List Bool) (b : Bool) → length q < (tower K m) .enc .size
     → least ((tower K m) .enc) c (q ++ (b ∷ [])) ≡ leastBy K m c q b
 unfolding leastBy
-layers-least K zero c q b l = refl
-layers-least K (suc m) c q b l =
+tower-least K zero c q b l = refl
+tower-least K (suc m) c q b l =
     let A = (tower K m) .enc in
     let B = (K (suc m)) .enc in
     let r : ℕ = length q / A .size in
     layer-next A B (coder-onto (tower K m)) c q b l
-    ∙ layers-least K m (pairs A B c (rows (A .size) r q)) (drop (r * A .size) q) b (below A B q l)
+    ∙ tower-least K m (pairs A B c (rows (A .size) r q)) (drop (r * A .size) q) b ((parted (A .size) (B .size) q l) .in-row)
 
 -- The same in scores: each outer layer turns the values of its places into values of the places of the frame inside it.
 unfoldable pub scoreBy : (ℕ → Coder) → ℕ → Costs → List Bool → ℤ
@@ -57,23 +51,16 @@ scoreBy K (suc m) c q =
     let r : ℕ = length q / A .size in
     scoreBy K m (soft A ((K (suc m)) .enc) c (rows (A .size) r q)) (drop (r * A .size) q)
 
-pub layers-scores : (K : ℕ → Coder) (m : ℕ) (c : Costs) (q : List Bool) → length q < (tower K m) .enc .size
+pub tower-scores : (K : ℕ → Coder) (m : ℕ) (c : Costs) (q : List Bool) → length q < (tower K m) .enc .size
     → score ((tower K m) .enc) c q ≡ scoreBy K m c q
 unfolding scoreBy
-layers-scores K zero c q l = refl
-layers-scores K (suc m) c q l =
+tower-scores K zero c q l = refl
+tower-scores K (suc m) c q l =
     let A = (tower K m) .enc in
     let B = (K (suc m)) .enc in
     let r : ℕ = length q / A .size in
-    let U = rows (A .size) r q in
-    let p = drop (r * A .size) q in
-    let onto = coder-onto (tower K m) in
-    score-least (staged A B) c q
-    ∙ ap₂ subℕ (layer-next A B onto c q true l) (layer-next A B onto c q false l)
-    ∙ sym (score-least A (pairs A B c U) p)
-    ∙ score-values A (pairs A B c U) p
-    ∙ ap (λ d. score A d p) (fun-ext (λ j. ap pay (value-pairs A B c U j)))
-    ∙ layers-scores K m (soft A B c U) p (below A B q l)
+    layer-scores-next A B (coder-onto (tower K m)) c q l
+    ∙ tower-scores K m (soft A B c (rows (A .size) r q)) (drop (r * A .size) q) ((parted (A .size) (B .size) q l) .in-row)
 
 -- ---- layers of kernels
 
@@ -105,10 +92,26 @@ pub layers-tower : (K : ℕ → Kernel) (v : (i : ℕ) → Invertible (K i)) (m 
 layers-tower K v m =
     same-code (layers K m) ((tower (coders K v) m) .enc) (sym (tower-size K v m)) (sym (tower-places K v m)) (λ u p. sym (tower-word K v m u p))
 
--- A frame of any number of layers is undone by the frame of the inverses, nested the other way.
-pub layers-undo : (K : ℕ → Kernel) (v : (i : ℕ) → Invertible (K i)) (m : ℕ) → Undoes (layers K m) ((tower (coders K v) m) .dec)
+-- The layer theorem of a frame of any number of layers, in least totals,
+pub layers-least : (K : ℕ → Kernel) (v : (i : ℕ) → Invertible (K i)) (m : ℕ) (c : Costs) (q : List Bool) (b : Bool) → length q < extent K m
+    → least (layers K m) c (q ++ (b ∷ [])) ≡ leastBy (coders K v) m c q b
+layers-least K v m c q b l =
+    ap (λ C. least C c (q ++ (b ∷ []))) (layers-tower K v m) ∙ tower-least (coders K v) m c q b (rw (tower-size K v m) l)
+
+-- and in scores.
+pub layers-scores : (K : ℕ → Kernel) (v : (i : ℕ) → Invertible (K i)) (m : ℕ) (c : Costs) (q : List Bool) → length q < extent K m
+    → score (layers K m) c q ≡ scoreBy (coders K v) m c q
+layers-scores K v m c q l = ap (λ C. score C c q) (layers-tower K v m) ∙ tower-scores (coders K v) m c q (rw (tower-size K v m) l)
+
+-- A frame of any number of layers is undone by the inverse kernels in stages, nested the other way,
+pub layers-undo : (K : ℕ → Kernel) (v : (i : ℕ) → Invertible (K i)) (m : ℕ) → UndoneBy (layers K m) ((tower (coders K v) m) .dec)
 layers-undo K v m = rw (layers-tower K v m) ((tower (coders K v) m) .undo)
 
+-- and undoes them.
+pub layers-redo : (K : ℕ → Kernel) (v : (i : ℕ) → Invertible (K i)) (m : ℕ) → UndoneBy ((tower (coders K v) m) .dec) (layers K m)
+layers-redo K v m = rw (layers-tower K v m) ((tower (coders K v) m) .redo)
+
+-- Every word of such a frame's size is one of its words.
 pub layers-onto : (K : ℕ → Kernel) (v : (i : ℕ) → Invertible (K i)) (m : ℕ) → Onto (layers K m)
 layers-onto K v m = subst⁻¹ Onto (layers-tower K v m) (coder-onto (tower (coders K v) m))
 

@@ -6,7 +6,7 @@ use lib.Dec.{eqb}
 use Rattle.base.specs.Bit.{_⊕_, bit, parity, every}
 use Rattle.base.proofs.Bool.{⊕-same, parity-cong, parity-and, and-parity, parity-swap, parity-only, every-at}
 use Rattle.base.proofs.List.{tabulate-at}
-use Rattle.polar.specs.Code.{Onto, Undoes}
+use Rattle.polar.specs.Code.{Onto, UndoneBy}
 use Rattle.polar.specs.Kernel.{matrix, product, Inverse, Kernel, code, Invertible, inverted}
 use Rattle.polar.proofs.Undo.{undo-onto, Coder}
 
@@ -19,25 +19,25 @@ product-word n k M N x j =
     ∙ parity-cong n (λ s _. and-parity k (x s) (λ i. M s i && N i j))
 
 -- What M makes, its inverse undoes.
-pub undone : (n : ℕ) (M N : ℕ → ℕ → Bool) → Inverse n M N → (x : ℕ → Bool) (j : ℕ) → j < n
+pub inverse-undoes : (n : ℕ) (M N : ℕ → ℕ → Bool) → Inverse n M N → (x : ℕ → Bool) (j : ℕ) → j < n
     → parity n (λ i. parity n (λ s. x s && M s i) && N i j) ≡ x j
-undone n M N inv x j l =
+inverse-undoes n M N inv x j l =
     product-word n n M N x j ∙ parity-cong n (λ s h. ap (λ b. x s && b) (inv s j h l)) ∙ parity-only n x j l
 
 -- The product of two matrices is inverted by that of their inverses, exchanged.
 pub product-inverse : (n : ℕ) (M N M′ N′ : ℕ → ℕ → Bool) → Inverse n M M′ → Inverse n N N′ → Inverse n (product n M N) (product n N′ M′)
 product-inverse n M N M′ N′ m i s j ls lj =
     sym (product-word n n N′ M′ (λ k. product n M N s k) j)
-    ∙ parity-cong n (λ k lk. ap (λ b. b && M′ k j) (undone n N N′ i (M s) k lk))
+    ∙ parity-cong n (λ k lk. ap (λ b. b && M′ k j) (inverse-undoes n N N′ i (M s) k lk))
     ∙ m s j ls lj
 
-pub matrix-undo : (n : ℕ) (M N : ℕ → ℕ → Bool) → Inverse n M N → Undoes (matrix n n M) (matrix n n N)
+pub matrix-undo : (n : ℕ) (M N : ℕ → ℕ → Bool) → Inverse n M N → UndoneBy (matrix n n M) (matrix n n N)
 matrix-undo n M N inv = record {
   back = refl;
   there = refl;
   undo = λ u e j l.
       parity-cong n (λ k h. ap (λ b. b && N k j) (tabulate-at n (λ k. parity n (λ s. bit u s && M s k)) k false h))
-      ∙ undone n M N inv (bit u) j l;
+      ∙ inverse-undoes n M N inv (bit u) j l;
 }
 
 -- The inverse of an invertible kernel is invertible.

@@ -1,18 +1,18 @@
 -- Relations that can be solved, with an invertible matrix, make an invertible kernel. Assumes nothing.
 use mathlib.Core.Path.{_≡_, refl, sym, ap, ap₂, _∙_}
-use mathlib.Core.Bool.{Bool, true, false, _&&_, and-true, and-false, and-eq-true-iff}
+use mathlib.Core.Bool.{Bool, true, false, _&&_, and-comm, and-false, and-eq-true-iff}
 use mathlib.Core.List.{List, [], _∷_}
 use Prim.Native.Nat.{ℕ, zero, suc, _<_}
 use borrow.Author.Tests.{ltb-true, eqb-true}
 use lib.Dec.{eqb, ltb}
 use lib.ListN.{length, getD, length-map, List·getD-map}
 use lib.Seq.{ext-getD}
-use Rattle.base.specs.Bit.{_⊕_, bit, parity, tabulate, agree}
+use Rattle.base.specs.Bit.{_⊕_, bit, parity, tabulate, same}
 use Rattle.base.proofs.Bool.{and-⊕, parity-cong, parity-false, parity-⊕, parity-only}
-use Rattle.base.proofs.List.{length-tabulate, tabulate-at, agree-same, agree-self, length-the, the-holds, the-only}
+use Rattle.base.proofs.List.{length-tabulate, tabulate-at, same-eq, same-self, length-find, find-holds, find-only}
 use Rattle.polar.specs.Kernel.{product, Inverse}
-use Rattle.polar.specs.Relation.{Relation, sumOf, symbols, tied, tiedWord, untied, unit, row}
-use Rattle.polar.proofs.Matrix.{undone, product-word, product-inverse, inverseTest, tested}
+use Rattle.polar.specs.Relation.{Relation, sumOf, symbols, tied, wordBy, symbolsBy, unit, row}
+use Rattle.polar.proofs.Matrix.{inverse-undoes, product-word, product-inverse, inverseTest, tested}
 
 -- Whether a relation names v i an odd number of times.
 unfoldable pub names : ℕ → Relation → Bool
@@ -98,7 +98,7 @@ solved-symbols n rs qs k v e =
     same-bits n (symbols qs (symbols rs v)) v (length-symbols qs (symbols rs v) ∙ k .solutions) e (λ i l.
     symbol-uses n qs (k .within-too) (symbols rs v) i
     ∙ parity-cong n (λ s h. ap (λ b. b && uses qs s i) (symbol-uses n rs (k .bounded) v s))
-    ∙ undone n (uses rs) (uses qs) (k .product-unit) (bit v) i l)
+    ∙ inverse-undoes n (uses rs) (uses qs) (k .product-unit) (bit v) i l)
 
 -- What is computed of a kernel: relations that can be solved, both ways, and a matrix F with its inverse G.
 pub record Solution (n : ℕ) (F G : ℕ → ℕ → Bool) (rs qs : List Relation) : Type 0 where
@@ -112,14 +112,14 @@ module _ (n : ℕ) (F G : ℕ → ℕ → Bool) (rs qs : List Relation) (k : Sol
   pub symbols-tied : (u : List Bool) → length u ≡ n → symbols rs (tied rs u) ≡ u
   unfolding tied
   symbols-tied u e =
-      agree-same (symbols rs (tied rs u)) u
-      (the-holds (length rs) (λ v. agree (symbols rs v) u) (symbols qs u)
+      same-eq (symbols rs (tied rs u)) u
+      (find-holds (length rs) (λ v. same (symbols rs v) u) (symbols qs u)
       (length-symbols qs u ∙ k .solves .solutions ∙ sym (k .solves .count))
-      (ap (λ w. agree w u) (solved-symbols n qs rs (k .solved) u e) ∙ agree-self u))
+      (ap (λ w. same w u) (solved-symbols n qs rs (k .solved) u e) ∙ same-self u))
 
   pub length-tied : (u : List Bool) → length (tied rs u) ≡ n
   unfolding tied
-  length-tied u = length-the (length rs) _ ∙ k .solves .count
+  length-tied u = length-find (length rs) _ ∙ k .solves .count
 
   -- and to one only.
   pub one-v : (v w : List Bool) → length v ≡ n → length w ≡ n → symbols rs v ≡ symbols rs w → v ≡ w
@@ -130,8 +130,8 @@ module _ (n : ℕ) (F G : ℕ → ℕ → Bool) (rs qs : List Relation) (k : Sol
       one-v (tied rs (symbols rs v)) v (length-tied (symbols rs v)) e (symbols-tied (symbols rs v) (length-symbols rs v ∙ k .solves .count))
 
   -- The word of the symbols of v is vF.
-  pub word-symbols : (v : List Bool) → length v ≡ n → (j : ℕ) → tiedWord F rs (symbols rs v) j ≡ parity n (λ i. bit v i && F i j)
-  unfolding tiedWord
+  pub word-symbols : (v : List Bool) → length v ≡ n → (j : ℕ) → wordBy F rs (symbols rs v) j ≡ parity n (λ i. bit v i && F i j)
+  unfolding wordBy
   word-symbols v e j =
       ap₂ (λ m w. parity m (λ i. bit w i && F i j)) (k .solves .count) (tied-symbols v e)
 
@@ -142,8 +142,8 @@ module _ (n : ℕ) (F G : ℕ → ℕ → Bool) (rs qs : List Relation) (k : Sol
       (symbols-tied u e ∙ sym (solved-symbols n qs rs (k .solved) u e))
 
   -- The word of any symbols, by the product of the solution and F.
-  pub word-product : (u : List Bool) → length u ≡ n → (j : ℕ) → tiedWord F rs u j ≡ parity n (λ s. bit u s && product n (uses qs) F s j)
-  unfolding tiedWord
+  pub word-product : (u : List Bool) → length u ≡ n → (j : ℕ) → wordBy F rs u j ≡ parity n (λ s. bit u s && product n (uses qs) F s j)
+  unfolding wordBy
   word-product u e j =
       ap₂ (λ m w. parity m (λ i. bit w i && F i j)) (k .solves .count) (tied-solution u e)
       ∙ parity-cong n (λ i _. ap (λ b. b && F i j) (symbol-uses n qs (k .solves .within-too) u i))
@@ -152,17 +152,13 @@ module _ (n : ℕ) (F G : ℕ → ℕ → Bool) (rs qs : List Relation) (k : Sol
   -- The rows of the kernel are those of the product.
   pub row-product : (s j : ℕ) → s < n → row F rs s j ≡ product n (uses qs) F s j
   row-product s j l =
-      ap (λ m. tiedWord F rs (unit m s) j) (k .solves .count)
+      ap (λ m. wordBy F rs (unit m s) j) (k .solves .count)
       ∙ word-product (unit n s) (length-tabulate n _) j
-      ∙ parity-cong n (λ i h. ap (λ b. b && product n (uses qs) F i j) (tabulate-at n (λ i. eqb i s) i false h) ∙ flip (eqb i s) (product n (uses qs) F i j))
+      ∙ parity-cong n (λ i h. ap (λ b. b && product n (uses qs) F i j) (tabulate-at n (λ i. eqb i s) i false h) ∙ and-comm (eqb i s) (product n (uses qs) F i j))
       ∙ parity-only n (λ i. product n (uses qs) F i j) s l
-    where
-      flip : (a b : Bool) → a && b ≡ b && a
-      flip true b = sym (and-true b)
-      flip false b = sym (and-false b)
 
   -- A word is the sum of the rows of its symbols.
-  pub word-rows : (u : List Bool) → length u ≡ n → (j : ℕ) → tiedWord F rs u j ≡ parity n (λ s. bit u s && row F rs s j)
+  pub word-rows : (u : List Bool) → length u ≡ n → (j : ℕ) → wordBy F rs u j ≡ parity n (λ s. bit u s && row F rs s j)
   word-rows u e j = word-product u e j ∙ parity-cong n (λ s l. ap (λ b. bit u s && b) (sym (row-product s j l)))
 
   -- The kernel of the relations can be inverted.
@@ -181,50 +177,50 @@ module _ (n : ℕ) (F G : ℕ → ℕ → Bool) (rs qs : List Relation) (k : Sol
   undo-list c = tabulate n (λ s. parity n (λ j. bit c j && product n G (uses rs) j s))
 
   word-list : List Bool → List Bool
-  word-list u = tabulate n (tiedWord F rs u)
+  word-list u = tabulate n (wordBy F rs u)
 
   undo-list-word : (u : List Bool) → length u ≡ n → undo-list (word-list u) ≡ u
   unfolding undo-list word-list
   undo-list-word u e =
       same-bits n (undo-list (word-list u)) u (length-tabulate n _) e (λ s l.
       tabulate-at n _ s false l
-      ∙ parity-cong n (λ j h. ap (λ b. b && product n G (uses rs) j s) (tabulate-at n (tiedWord F rs u) j false h ∙ word-rows u e j))
-      ∙ undone n (row F rs) (product n G (uses rs)) row-inverse (bit u) s l)
+      ∙ parity-cong n (λ j h. ap (λ b. b && product n G (uses rs) j s) (tabulate-at n (wordBy F rs u) j false h ∙ word-rows u e j))
+      ∙ inverse-undoes n (row F rs) (product n G (uses rs)) row-inverse (bit u) s l)
 
   word-undo-list : (c : List Bool) → length c ≡ n → word-list (undo-list c) ≡ c
   unfolding undo-list word-list
   word-undo-list c e =
       same-bits n (word-list (undo-list c)) c (length-tabulate n _) e (λ j l.
-      tabulate-at n (tiedWord F rs (undo-list c)) j false l
+      tabulate-at n (wordBy F rs (undo-list c)) j false l
       ∙ word-rows (undo-list c) (length-tabulate n _) j
       ∙ parity-cong n (λ s h. ap (λ b. b && row F rs s j) (tabulate-at n _ s false h))
-      ∙ undone n (product n G (uses rs)) (row F rs) inverse-row (bit c) j l)
+      ∙ inverse-undoes n (product n G (uses rs)) (row F rs) inverse-row (bit c) j l)
 
-  untied-list : (c : List Bool) → length c ≡ n → untied F rs c ≡ undo-list c
-  unfolding untied undo-list word-list
-  untied-list c e =
-      the-only (length rs) (λ u. agree (tabulate (length rs) (tiedWord F rs u)) c) (undo-list c) (length-tabulate n _ ∙ sym (k .solves .count))
-      (ap (λ m. agree (tabulate m (tiedWord F rs (undo-list c))) c) (k .solves .count) ∙ ap (λ w. agree w c) (word-undo-list c e) ∙ agree-self c)
+  symbolsBy-list : (c : List Bool) → length c ≡ n → symbolsBy F rs c ≡ undo-list c
+  unfolding symbolsBy undo-list word-list
+  symbolsBy-list c e =
+      find-only (length rs) (λ u. same (tabulate (length rs) (wordBy F rs u)) c) (undo-list c) (length-tabulate n _ ∙ sym (k .solves .count))
+      (ap (λ m. same (tabulate m (wordBy F rs (undo-list c))) c) (k .solves .count) ∙ ap (λ w. same w c) (word-undo-list c e) ∙ same-self c)
       (λ u eu t.
       sym (undo-list-word u (eu ∙ k .solves .count))
-      ∙ ap undo-list (ap (λ m. tabulate m (tiedWord F rs u)) (sym (k .solves .count)) ∙ agree-same (tabulate (length rs) (tiedWord F rs u)) c t))
+      ∙ ap undo-list (ap (λ m. tabulate m (wordBy F rs u)) (sym (k .solves .count)) ∙ same-eq (tabulate (length rs) (wordBy F rs u)) c t))
 
   -- Undoing by the matrix.
-  pub untied-product : (c : List Bool) → length c ≡ n → (s : ℕ) → s < n
-      → bit (untied F rs c) s ≡ parity n (λ j. bit c j && product n G (uses rs) j s)
+  pub symbols-product : (c : List Bool) → length c ≡ n → (s : ℕ) → s < n
+      → bit (symbolsBy F rs c) s ≡ parity n (λ j. bit c j && product n G (uses rs) j s)
   unfolding undo-list
-  untied-product c e s l = ap (λ u. bit u s) (untied-list c e) ∙ tabulate-at n _ s false l
+  symbols-product c e s l = ap (λ u. bit u s) (symbolsBy-list c e) ∙ tabulate-at n _ s false l
 
-  pub length-untied : (c : List Bool) → length (untied F rs c) ≡ n
-  unfolding untied
-  length-untied c = length-the (length rs) _ ∙ k .solves .count
+  pub length-symbolsBy : (c : List Bool) → length (symbolsBy F rs c) ≡ n
+  unfolding symbolsBy
+  length-symbolsBy c = length-find (length rs) _ ∙ k .solves .count
 
   -- Undo of encode,
-  pub untied-word : (u : List Bool) → length u ≡ n → untied F rs (tabulate n (tiedWord F rs u)) ≡ u
+  pub symbols-of-word : (u : List Bool) → length u ≡ n → symbolsBy F rs (tabulate n (wordBy F rs u)) ≡ u
   unfolding word-list
-  untied-word u e = untied-list (word-list u) (length-tabulate n _) ∙ undo-list-word u e
+  symbols-of-word u e = symbolsBy-list (word-list u) (length-tabulate n _) ∙ undo-list-word u e
 
   -- and encode of undo.
-  pub word-untied : (c : List Bool) → length c ≡ n → tabulate n (tiedWord F rs (untied F rs c)) ≡ c
+  pub word-of-symbols : (c : List Bool) → length c ≡ n → tabulate n (wordBy F rs (symbolsBy F rs c)) ≡ c
   unfolding word-list
-  word-untied c e = ap word-list (untied-list c e) ∙ word-undo-list c e
+  word-of-symbols c e = ap word-list (symbolsBy-list c e) ∙ word-undo-list c e

@@ -9,7 +9,7 @@ use lib.ListN.{length, take, drop, length-map, length-take, length-drop}
 use lib.Seq.{take-at, drop-at, drop-drop, getD-take, getD-drop}
 use Rattle.base.specs.Bit.{bit, tabulate}
 use Rattle.base.proofs.List.{length-tabulate, tabulate-at, tabulate-cong, tabulate-append}
-use Rattle.polar.specs.Code.{Code, Onto, Undoes}
+use Rattle.polar.specs.Code.{Code, Onto, UndoneBy}
 use Rattle.polar.specs.Stages.{rows, column, staged}
 use Rattle.polar.proofs.Lowest.{quot, rest}
 use Rattle.polar.proofs.Layer.{length-rows, pos-right}
@@ -22,7 +22,7 @@ column-at A n (suc k) u j zero l = rw mul-zero
 column-at A n (suc k) u j (suc r) l =
     rw (mul-suc, add-comm (n * r) n, ← (drop-drop (n * r) n u)) (column-at A n k (drop n u) j r (omega arith))
 
--- Bit r of what g makes of each block of w of k blocks.
+-- What g makes of each of k blocks of w bits.
 blocks : (g : List Bool → Bool) (k w : ℕ) (f : ℕ → Bool) → map g (rows w k (tabulate (k * w) f)) ≡ tabulate k (λ j. g (tabulate w (λ t. f (w * j + t))))
 unfolding rows tabulate
 blocks g zero w f = refl
@@ -38,7 +38,7 @@ blocks g (suc k) w f =
 row-length : (n k r : ℕ) (u : List Bool) → length u ≡ k * n → r < k → length (take n (drop (n * r) u)) ≡ n
 row-length n k r u e l = simp (length-take, length-drop) (omega (arith, mul-le-mul-left n l, mul-suc n r, mul-comm k n))
 
-module _ (A B B′ : Code) (b : Undoes B B′) (u : List Bool) where
+module _ (A B B′ : Code) (b : UndoneBy B B′) (u : List Bool) where
   -- The outer words undone are the inner words.
   outer-undone : (r : ℕ) → r < B .size
       → column B′ (rows (B .places) (A .places) (tabulate (A .places * B .places) ((staged A B) .word u))) r
@@ -52,7 +52,7 @@ module _ (A B B′ : Code) (b : Undoes B B′) (u : List Bool) where
       ∙ column-at A (A .size) (B .size) u j r l)
 
 -- The stages of the undoing codes, inner and outer exchanged, undo both stages.
-pub staged-undo : (A B A′ B′ : Code) → Undoes A A′ → Undoes B B′ → Undoes (staged A B) (staged B′ A′)
+pub staged-undo : (A B A′ B′ : Code) → UndoneBy A A′ → UndoneBy B B′ → UndoneBy (staged A B) (staged B′ A′)
 staged-undo A B A′ B′ a b = record {
   back = ap₂ _*_ (a .back) (b .back);
   there = ap₂ _*_ (b .there) (a .there);
@@ -70,7 +70,7 @@ staged-undo A B A′ B′ a b = record {
 }
 
 -- A code with another that it undoes is onto.
-pub undo-onto : (C D : Code) → Undoes D C → Onto C
+pub undo-onto : (C D : Code) → UndoneBy D C → Onto C
 undo-onto C D h x =
     let v = tabulate (D .size) x in (
       tabulate (D .places) (D .word v),
@@ -82,8 +82,8 @@ undo-onto C D h x =
 pub record Coder : Type 0 where
   pub enc : Code
   pub dec : Code
-  pub undo : Undoes enc dec
-  pub redo : Undoes dec enc
+  pub undo : UndoneBy enc dec
+  pub redo : UndoneBy dec enc
 
 pub coder-onto : (C : Coder) → Onto (C .enc)
 coder-onto C = undo-onto (C .enc) (C .dec) (C .redo)

@@ -2,17 +2,17 @@
 use mathlib.Core.Path.{_≡_, sym, ap, ap₂, _∙_, fun-ext}
 use mathlib.Core.Bool.{Bool, true, false}
 use mathlib.Core.List.{List, [], _∷_, _++_, append-assoc, append-nil}
-use Prim.Native.Nat.{ℕ, _+_, _-_, _*_, _≤_, _<_, min}
+use Prim.Native.Nat.{ℕ, _+_, _-_, _*_, _/_, _≤_, _<_, min}
 use native.Mathlib.Decide.{decLt}
 use native.Mathlib.Omega.{arith}
 use borrow.Author.Tests.{lt-ltb, le-ltb}
-use lib.ListN.{length, length-append}
+use lib.ListN.{length, take, drop, length-append}
 use lib.IntN.{ℤ, pos, negsuc, subℕ}
 use Rattle.polar.specs.Code.{Code, Costs, pay, sum, total, least, score, Onto}
 use Rattle.polar.specs.Stages.{rows, column, staged, block, pairs, soft}
 use Rattle.polar.proofs.Lowest.{lowest-cong, lowest-shift, sum-cong, sum-add}
 use Rattle.polar.proofs.Least.{score-least, least-free, least-step, least-bound}
-use Rattle.polar.proofs.Layer.{layer}
+use Rattle.polar.proofs.Layer.{Parted, parted, layer}
 
 -- The score after whole rows u and a part p of the next is the inner code's, over the pairs.
 pub score-layer : (A B : Code) → Onto A → (m : Costs) (r : ℕ) (u p : List Bool) → length u ≡ r * A .size → r < B .size → length p < A .size
@@ -67,13 +67,13 @@ score-values C m p =
     ∙ sub-shift (sum (C .places) (λ i. common (m i))) _ _
     ∙ sym (score-least C (values m) p)
 
--- So the inner code of a staged may be given the outer scores as its values: its scores are the staged's,
--- and its penalties with what stood before the row are the staged's.
+-- The value of what the outer code asks for a place is the outer score there.
 pub value-pairs : (A B : Code) (m : Costs) (U : List (List Bool)) (j : ℕ)
     → value (pairs A B m U j) ≡ score B (block (B .places) m j) (column A U j)
 unfolding pairs
 value-pairs A B m U j = sym (score-least B (block (B .places) m j) (column A U j))
 
+-- A row adds to the penalty what the inner code pays over those values.
 pub penalty-values : (A B : Code) → Onto A → (m : Costs) (r : ℕ) (u p : List Bool) → length u ≡ r * A .size → r < B .size → length p ≤ A .size
     → least (staged A B) m (u ++ p) ≡ least (staged A B) m u + least A (values (pairs A B m (rows (A .size) r u))) p
 penalty-values A B onto m r u p e lr lp =
@@ -88,13 +88,24 @@ penalty-next C m p b l =
     parts (λ c. least C m (p ++ (c ∷ []))) b
     ∙ ap₂ (λ x s. x + pay s b) (sym (least-step C m p l)) (sym (score-least C m p))
 
--- The layer theorem in scores alone: the staged's scores are the inner code's, with the outer codes' scores as its channel values.
+-- The layer theorem in scores alone: the scores of two stages are the inner code's, with the outer scores as its channel values.
 pub layer-scores : (A B : Code) → Onto A → (m : Costs) (r : ℕ) (u p : List Bool) → length u ≡ r * A .size → r < B .size → length p < A .size
     → score (staged A B) m (u ++ p) ≡ score A (soft A B m (rows (A .size) r u)) p
 layer-scores A B onto m r u p e lr lp =
     score-layer A B onto m r u p e lr lp
     ∙ score-values A (pairs A B m (rows (A .size) r u)) p
     ∙ ap (λ c. score A c p) (fun-ext (λ j. ap pay (value-pairs A B m (rows (A .size) r u) j)))
+
+-- The same of the symbols q so far.
+pub layer-scores-next : (A B : Code) → Onto A → (m : Costs) (q : List Bool) → length q < B .size * A .size
+    → score (staged A B) m q ≡ score A (soft A B m (rows (A .size) (length q / A .size) q)) (drop (length q / A .size * A .size) q)
+layer-scores-next A B onto m q l = go (length q / A .size) (parted (A .size) (B .size) q l)
+  where
+    go : (r : ℕ) → Parted (A .size) (B .size) r q → score (staged A B) m q ≡ score A (soft A B m (rows (A .size) r q)) (drop (r * A .size) q)
+    go r c =
+        ap (score (staged A B) m) (sym (c .whole))
+        ∙ layer-scores A B onto m r (take (r * A .size) q) (drop (r * A .size) q) (c .row-count) (c .in-frame) (c .in-row)
+        ∙ ap (λ U. score A (soft A B m U) (drop (r * A .size) q)) (c .same-rows)
 
 -- A score is at most c for each place, where no cost exceeds c.
 pub score-bound : (C : Code) (m : Costs) (c : ℕ) → ((i : ℕ) (b : Bool) → m i b ≤ c) → (p : List Bool) (b : Bool) → pay (score C m p) b ≤ C .places * c

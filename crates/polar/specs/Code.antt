@@ -64,12 +64,12 @@ pub record IsBest (C : Code) (m : Costs) (p : List Bool) (x : ℤ) : Type 0 wher
 unfoldable pub score : Code → Costs → List Bool → ℤ
 score C m p = bestScore C m (p ++ (false ∷ [])) -ℤ bestScore C m (p ++ (true ∷ []))
 
--- Every word is the word of some symbols.
+-- Every choice of bits at the places is the word of some symbols.
 abbrev pub Onto : Code → Type 0
 Onto C = (x : ℕ → Bool) → (u : List Bool) × (length u ≡ C .size) × ((i : ℕ) → i < C .places → C .word u i ≡ x i)
 
--- D undoes C: of the word of u it makes u again.
-pub record Undoes (C D : Code) : Type 0 where
+-- C is undone by D: of the word of u by C, D makes u again.
+pub record UndoneBy (C D : Code) : Type 0 where
   pub back : D .size ≡ C .places
   pub there : D .places ≡ C .size
   pub undo : (u : List Bool) → length u ≡ C .size → (i : ℕ) → i < C .size → D .word (tabulate (C .places) (C .word u)) i ≡ bit u i

@@ -4,7 +4,7 @@ use mathlib.Core.List.{List, [], _∷_, map}
 use Prim.Native.Nat.{ℕ}
 use lib.Dec.{eqb}
 use lib.ListN.{length}
-use Rattle.base.specs.Bit.{_⊕_, bit, parity, tabulate, agree, the}
+use Rattle.base.specs.Bit.{_⊕_, bit, parity, tabulate, same, find}
 
 -- A relation names the v whose sum is a symbol: v5+v6+v10 is 5 ∷ 6 ∷ 10 ∷ [].
 abbrev pub Relation : Type 0
@@ -21,15 +21,15 @@ symbols rs v = map (λ r. sumOf r v) rs
 
 -- The v that the relations tie to the symbols u: the one whose symbols are u.
 unfoldable pub tied : List Relation → List Bool → List Bool
-tied rs u = the (length rs) (λ v. agree (symbols rs v) u)
+tied rs u = find (length rs) (λ v. same (symbols rs v) u)
 
 -- Bit j of the word of the symbols u: of vF, for that v.
-unfoldable pub tiedWord : (ℕ → ℕ → Bool) → List Relation → List Bool → ℕ → Bool
-tiedWord F rs u j = parity (length rs) (λ i. bit (tied rs u) i && F i j)
+unfoldable pub wordBy : (ℕ → ℕ → Bool) → List Relation → List Bool → ℕ → Bool
+wordBy F rs u j = parity (length rs) (λ i. bit (tied rs u) i && F i j)
 
 -- The symbols of a word: those whose word it is.
-unfoldable pub untied : (ℕ → ℕ → Bool) → List Relation → List Bool → List Bool
-untied F rs c = the (length rs) (λ u. agree (tabulate (length rs) (tiedWord F rs u)) c)
+unfoldable pub symbolsBy : (ℕ → ℕ → Bool) → List Relation → List Bool → List Bool
+symbolsBy F rs c = find (length rs) (λ u. same (tabulate (length rs) (wordBy F rs u)) c)
 
 -- n symbols of which only symbol s is 1.
 abbrev pub unit : ℕ → ℕ → List Bool
@@ -37,4 +37,4 @@ unit n s = tabulate n (λ i. eqb i s)
 
 -- Row s of the kernel: the word with only symbol s set.
 abbrev pub row : (ℕ → ℕ → Bool) → List Relation → ℕ → ℕ → Bool
-row F rs s j = tiedWord F rs (unit (length rs) s) j
+row F rs s j = wordBy F rs (unit (length rs) s) j
