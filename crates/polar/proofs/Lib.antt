@@ -8,3 +8,5 @@ pub mod Matrix
 pub mod Frame
 pub mod Layers
 pub mod Relation
+pub mod Pigeon
+pub mod Window

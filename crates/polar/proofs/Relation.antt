@@ -93,12 +93,17 @@ solves-by n rs qs t =
 pub same-bits : (n : ℕ) (u v : List Bool) → length u ≡ n → length v ≡ n → ((i : ℕ) → i < n → bit u i ≡ bit v i) → u ≡ v
 same-bits n u v eu ev h = ext-getD false u v (eu ∙ sym ev) (λ i l. h i (rw (← eu) l))
 
-pub solved-symbols : (n : ℕ) (rs qs : List Relation) → Solves n rs qs → (v : List Bool) → length v ≡ n → symbols qs (symbols rs v) ≡ v
-solved-symbols n rs qs k v e =
-    same-bits n (symbols qs (symbols rs v)) v (length-symbols qs (symbols rs v) ∙ k .solutions) e (λ i l.
+-- Each of the first n bits of any v comes back from its symbols,
+pub solved-bit : (n : ℕ) (rs qs : List Relation) → Solves n rs qs → (v : List Bool) (i : ℕ) → i < n → bit (symbols qs (symbols rs v)) i ≡ bit v i
+solved-bit n rs qs k v i l =
     symbol-uses n qs (k .within-too) (symbols rs v) i
     ∙ parity-cong n (λ s h. ap (λ b. b && uses qs s i) (symbol-uses n rs (k .bounded) v s))
-    ∙ inverse-undoes n (uses rs) (uses qs) (k .product-unit) (bit v) i l)
+    ∙ inverse-undoes n (uses rs) (uses qs) (k .product-unit) (bit v) i l
+
+-- and so a v of n bits.
+pub solved-symbols : (n : ℕ) (rs qs : List Relation) → Solves n rs qs → (v : List Bool) → length v ≡ n → symbols qs (symbols rs v) ≡ v
+solved-symbols n rs qs k v e =
+    same-bits n (symbols qs (symbols rs v)) v (length-symbols qs (symbols rs v) ∙ k .solutions) e (solved-bit n rs qs k v)
 
 -- What is computed of a kernel: relations that can be solved, both ways, and a matrix F with its inverse G.
 pub record Solution (n : ℕ) (F G : ℕ → ℕ → Bool) (rs qs : List Relation) : Type 0 where

@@ -4,3 +4,4 @@ pub mod Kernel
 pub mod Frame
 pub mod Stages
 pub mod Relation
+pub mod Window
