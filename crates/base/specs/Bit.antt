@@ -1,7 +1,8 @@
 -- Bits, lists of bits, and what is said of all indices below a number. Assumes nothing.
 use mathlib.Core.Bool.{Bool, true, false, not, _&&_}
 use mathlib.Core.List.{List, [], _∷_}
-use Prim.Native.Nat.{ℕ, zero, suc}
+use Prim.Native.Nat.{ℕ, zero, suc, _%_}
+use lib.Dec.{eqb}
 use lib.ListN.{getD}
 
 infixl 33 _⊕_
@@ -9,6 +10,10 @@ infixl 33 _⊕_
 abbrev pub _⊕_ : Bool → Bool → Bool
 true ⊕ b = not b
 false ⊕ b = b
+
+-- Whether a number is odd.
+abbrev pub odd : ℕ → Bool
+odd x = eqb (x % 2) 1
 
 -- Bit i of a list, 0 past its end.
 abbrev pub bit : List Bool → ℕ → Bool

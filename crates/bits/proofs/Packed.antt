@@ -12,8 +12,8 @@ use lib.Dec.{eqb, lit<}
 use lib.ListN.{length, getD, set, take, drop, replicate, length-append, replicate-append-replicate, List·getD-append}
 use lib.Pow.{pow-pos, pow-lt, pow-add, high, mod-pow-add, mod-mod-pow, field, shl-exact}
 use lib.Seq.{getD-append-add, set-append-left, set-at, drop-at, drop-nil}
-use Rattle.base.specs.Bit.{bit, _⊕_}
-use Rattle.bits.specs.Packed.{odd, bits, digit, number, unpack, pad, pack}
+use Rattle.base.specs.Bit.{bit, _⊕_, odd}
+use Rattle.bits.specs.Packed.{bits, digit, number, unpack, pad, pack}
 
 -- ---- the bits of a number
 

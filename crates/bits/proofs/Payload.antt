@@ -12,8 +12,8 @@ use lib.Count.{ones-cat}
 use lib.ListN.{length, getD, set, take, drop, replicate}
 use lib.Pow.{pow-pos, split, shr-lt}
 use lib.Seq.{drop-cons}
-use Rattle.base.specs.Bit.{bit}
-use Rattle.bits.specs.Packed.{odd, bits, digit, unpack, pad, pack}
+use Rattle.base.specs.Bit.{bit, odd}
+use Rattle.bits.specs.Packed.{bits, digit, unpack, pad, pack}
 use Rattle.bits.specs.Payload.{ones, spread, gather, frozenOne}
 use Rattle.bits.proofs.Packed.{bits-mod, length-unpack, unpack-zero, unpack-pack, packed}
 

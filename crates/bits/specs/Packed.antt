@@ -1,13 +1,9 @@
 -- Packed bits: the lowest index stands in the most significant bit, eight bits to a byte. Assumes nothing.
 use mathlib.Core.Bool.{Bool, true, false}
 use mathlib.Core.List.{List, [], _∷_, _++_}
-use Prim.Native.Nat.{ℕ, zero, suc, _+_, _*_, _/_, _%_, _^_}
-use lib.Dec.{eqb}
+use Prim.Native.Nat.{ℕ, zero, suc, _+_, _*_, _/_, _^_}
 use lib.ListN.{length, drop}
-
--- Whether a number is odd.
-abbrev pub odd : ℕ → Bool
-odd x = eqb (x % 2) 1
+use Rattle.base.specs.Bit.{odd}
 
 -- The n bits of x, the most significant first: bits 8 of a byte, bits 16 of a kernel's sixteen.
 unfoldable pub bits : ℕ → ℕ → List Bool

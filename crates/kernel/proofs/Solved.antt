@@ -4,7 +4,7 @@ use mathlib.Core.Bool.{true}
 use mathlib.Core.List.{List, [], _∷_}
 use Prim.Native.Nat.{ℕ, zero, suc}
 use Rattle.base.specs.Bit.{parity, every}
-use Rattle.polar.specs.Kernel.{product, Inverse, Invertible}
+use Rattle.polar.specs.Kernel.{arikan, product, Inverse, Invertible}
 use Rattle.polar.specs.Relation.{Relation}
 use Rattle.polar.proofs.Matrix.{inverseTest, tested}
 use Rattle.polar.proofs.Relation.{names, uses, within, allWithin, solvesTest, solves-by, Solution, row-inverse, inverse-row}
@@ -22,7 +22,7 @@ solved (suc (suc k)) =
 
 -- F is its own inverse.
 pub F-inverse : Inverse 16 F F
-unfolding F inverseTest every parity
+unfolding arikan inverseTest every parity
 F-inverse = tested 16 F F refl
 
 -- Relations and solved solve one another: one computed test for each kernel and direction.

@@ -9,7 +9,7 @@ use Rattle.base.proofs.Bool.{⊕-same, parity-cong, every-at}
 use Rattle.base.proofs.List.{tabulate-cong, tabulate-bits}
 use Rattle.bits.specs.Packed.{bits, number}
 use Rattle.bits.proofs.Packed.{length-bits}
-use Rattle.polar.specs.Kernel.{product}
+use Rattle.polar.specs.Kernel.{arikan, product}
 use Rattle.polar.specs.Relation.{row}
 use Rattle.polar.proofs.Relation.{names, uses, word-product, row-product, symbols-product, length-symbolsBy}
 use Rattle.kernel.specs.Kernels.{F, relations, symbolsOf}
@@ -27,11 +27,11 @@ unfolding tableTest
 table-at T g t k s j lk ls lj = ⊕-same _ _ (every-at 16 _ (every-at 16 _ (every-at 3 _ t k lk) s ls) j lj)
 
 table-checked : tableTest table (λ k. product 16 (uses (solved k)) F) ≡ true
-unfolding tableTest bits F relations solved uses names every parity
+unfolding tableTest bits arikan relations solved uses names every parity
 table-checked = refl
 
 inverse-checked : tableTest inverseTable (λ k. product 16 F (uses (relations k))) ≡ true
-unfolding tableTest bits F relations uses names every parity
+unfolding tableTest bits arikan relations uses names every parity
 inverse-checked = refl
 
 -- Row s of the table is the word with only symbol s set.

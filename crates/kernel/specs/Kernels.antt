@@ -1,15 +1,13 @@
 -- The three kernels, in the paper's words: a word is c = vF, and a kernel relates the symbols u to v. Assumes nothing.
-use mathlib.Core.Bool.{Bool, not, _||_}
+use mathlib.Core.Bool.{Bool}
 use mathlib.Core.List.{List, [], _∷_}
-use Prim.Native.Nat.{ℕ, zero, suc, _/_, _^_}
-use Rattle.base.specs.Bit.{every}
-use Rattle.bits.specs.Packed.{odd}
-use Rattle.polar.specs.Kernel.{Kernel}
+use Prim.Native.Nat.{ℕ, zero, suc}
+use Rattle.polar.specs.Kernel.{arikan, Kernel}
 use Rattle.polar.specs.Relation.{Relation, wordBy, symbolsBy, row}
 
 -- F[i][j] = 1 exactly if every set bit of j is set in i, for i and j of four bits.
-unfoldable pub F : ℕ → ℕ → Bool
-F i j = every 4 (λ b. not (odd (j / 2 ^ b)) || odd (i / 2 ^ b))
+abbrev pub F : ℕ → ℕ → Bool
+F = arikan 4
 
 -- The relations of kernels 0, 1 and 2: u0 to u15 as sums of v. A number above 2 names none of them: here it stands for
 -- kernel 2, so that laws need no premise, and every job refuses it.

@@ -10,3 +10,5 @@ pub mod Layers
 pub mod Relation
 pub mod Pigeon
 pub mod Window
+pub mod Fold
+pub mod Folded

@@ -5,3 +5,4 @@ pub mod Frame
 pub mod Stages
 pub mod Relation
 pub mod Window
+pub mod Fold
