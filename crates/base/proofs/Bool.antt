@@ -119,3 +119,11 @@ unfolding every
 every-at zero f t i l = absurd (omega arith)
 every-at (suc n) f t zero l = ((and-eq-true-iff (f zero) _) .0 t) .0
 every-at (suc n) f t (suc i) l = every-at n (λ k. f (suc k)) (((and-eq-true-iff (f zero) _) .0 t) .1) i (omega arith)
+
+-- The computed test that two tables of a × b bits are the same, and what it shows.
+unfoldable pub sameTable : ℕ → ℕ → (ℕ → ℕ → Bool) → (ℕ → ℕ → Bool) → Bool
+sameTable a b f g = every a (λ i. every b (λ j. not (f i j ⊕ g i j)))
+
+pub same-table : (a b : ℕ) (f g : ℕ → ℕ → Bool) → sameTable a b f g ≡ true → (i j : ℕ) → i < a → j < b → f i j ≡ g i j
+unfolding sameTable
+same-table a b f g t i j li lj = ⊕-same (f i j) (g i j) (every-at b (λ j. not (f i j ⊕ g i j)) (every-at a (λ i. every b (λ j. not (f i j ⊕ g i j))) t i li) j lj)

@@ -8,9 +8,9 @@ use lib.Bits.{bitXor}
 use lib.ListN.{getD}
 use Rattle.base.specs.Bit.{_⊕_, bit, parity, tabulate}
 use Rattle.base.proofs.Bool.{⊕-false, parity-last}
-use Rattle.base.proofs.List.{tabulate-cong, tabulate-bits}
+use Rattle.base.proofs.List.{length-tabulate, tabulate-at, tabulate-cong, tabulate-bits}
 use Rattle.bits.specs.Packed.{bits, number}
-use Rattle.bits.proofs.Packed.{length-bits, xor-at, zero-at, number-bits-fit}
+use Rattle.bits.proofs.Packed.{length-bits, xor-at, zero-at, number-lt, bits-number, number-bits-fit}
 use Rattle.kernel.specs.Rows.{rowBit, sumBit, rowSum}
 
 -- c is the sum of the first n of the rows that x chooses.
@@ -42,3 +42,15 @@ summed-all rows x c n e l h =
     ∙ ap number
     (sym (tabulate-bits (bits 16 c)) ∙ ap (λ m. tabulate m (bit (bits 16 c))) (length-bits 16 c)
     ∙ tabulate-cong 16 (λ j _. h j ∙ ap (λ m. sumBit rows x m j) e))
+
+-- The bits of the sum.
+pub row-sum-at : (rows : List ℕ) (x j : ℕ) → j < 16 → bit (bits 16 (rowSum rows x)) j ≡ sumBit rows x 16 j
+unfolding rowSum
+row-sum-at rows x j l =
+    let t = tabulate 16 (sumBit rows x 16) in
+    ap (λ n. bit (bits n (number t)) j) (sym (length-tabulate 16 (sumBit rows x 16)))
+    ∙ ap (λ u. bit u j) (bits-number t) ∙ tabulate-at 16 (sumBit rows x 16) j false l
+
+pub row-sum-lt : (rows : List ℕ) (x : ℕ) → rowSum rows x < 2 ^ 16
+unfolding rowSum
+row-sum-lt rows x = rw (length-tabulate 16 (sumBit rows x 16)) at (number-lt (tabulate 16 (sumBit rows x 16)))

@@ -4,6 +4,7 @@ use mathlib.Core.Bool.{true}
 use mathlib.Core.List.{List, [], _∷_}
 use Prim.Native.Nat.{ℕ, zero, suc}
 use Rattle.base.specs.Bit.{parity, every}
+use Rattle.base.proofs.Bool.{sameTable}
 use Rattle.polar.specs.Kernel.{arikan, product, Inverse, Invertible}
 use Rattle.polar.specs.Relation.{Relation}
 use Rattle.polar.proofs.Matrix.{inverseTest, tested}
@@ -22,18 +23,18 @@ solved (suc (suc k)) =
 
 -- F is its own inverse.
 pub F-inverse : Inverse 16 F F
-unfolding arikan inverseTest every parity
+unfolding arikan inverseTest sameTable every parity
 F-inverse = tested 16 F F refl
 
 -- Relations and solved solve one another: one computed test for each kernel and direction.
 there : (k : ℕ) → solvesTest 16 (relations k) (solved k) ≡ true
-unfolding solvesTest relations solved allWithin within inverseTest every parity uses names
+unfolding solvesTest relations solved allWithin within inverseTest sameTable every parity uses names
 there zero = refl
 there (suc zero) = refl
 there (suc (suc k)) = refl
 
 back : (k : ℕ) → solvesTest 16 (solved k) (relations k) ≡ true
-unfolding solvesTest relations solved allWithin within inverseTest every parity uses names
+unfolding solvesTest relations solved allWithin within inverseTest sameTable every parity uses names
 back zero = refl
 back (suc zero) = refl
 back (suc (suc k)) = refl

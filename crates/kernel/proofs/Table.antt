@@ -5,7 +5,7 @@ use mathlib.Core.List.{List, []}
 use Prim.Native.Nat.{ℕ, _<_}
 use lib.ListN.{getD}
 use Rattle.base.specs.Bit.{_⊕_, bit, parity, tabulate, every}
-use Rattle.base.proofs.Bool.{⊕-same, parity-cong, every-at}
+use Rattle.base.proofs.Bool.{parity-cong, every-at, sameTable, same-table}
 use Rattle.base.proofs.List.{tabulate-cong, tabulate-bits}
 use Rattle.bits.specs.Packed.{bits, number}
 use Rattle.bits.proofs.Packed.{length-bits}
@@ -17,21 +17,22 @@ use Rattle.kernel.specs.Rows.{rowBit, rowSum, table, inverseTable}
 use Rattle.kernel.specs.Jobs.{encoded, undone}
 use Rattle.kernel.proofs.Solved.{solved, solution}
 
--- Whether each bit of a table is what g says.
+-- Whether each bit of a table is what g says, and what that shows.
 unfoldable tableTest : List (List ℕ) → (ℕ → ℕ → ℕ → Bool) → Bool
-tableTest T g = every 3 (λ k. every 16 (λ s. every 16 (λ j. not (rowBit (getD T k []) s j ⊕ g k s j))))
+tableTest T g = every 3 (λ k. sameTable 16 16 (rowBit (getD T k [])) (g k))
 
 table-at : (T : List (List ℕ)) (g : ℕ → ℕ → ℕ → Bool) → tableTest T g ≡ true → (k s j : ℕ) → k < 3 → s < 16 → j < 16
     → rowBit (getD T k []) s j ≡ g k s j
 unfolding tableTest
-table-at T g t k s j lk ls lj = ⊕-same _ _ (every-at 16 _ (every-at 16 _ (every-at 3 _ t k lk) s ls) j lj)
+table-at T g t k s j lk ls lj =
+    same-table 16 16 (rowBit (getD T k [])) (g k) (every-at 3 (λ k. sameTable 16 16 (rowBit (getD T k [])) (g k)) t k lk) s j ls lj
 
 table-checked : tableTest table (λ k. product 16 (uses (solved k)) F) ≡ true
-unfolding tableTest bits arikan relations solved uses names every parity
+unfolding tableTest sameTable bits arikan relations solved uses names every parity
 table-checked = refl
 
 inverse-checked : tableTest inverseTable (λ k. product 16 F (uses (relations k))) ≡ true
-unfolding tableTest bits arikan relations uses names every parity
+unfolding tableTest sameTable bits arikan relations uses names every parity
 inverse-checked = refl
 
 -- Row s of the table is the word with only symbol s set.

@@ -2,6 +2,7 @@
 use mathlib.Core.Bool.{Bool}
 use mathlib.Core.List.{List, [], _∷_}
 use Prim.Native.Nat.{ℕ, zero, suc}
+use Rattle.polar.specs.Code.{Code}
 use Rattle.polar.specs.Kernel.{arikan, Kernel}
 use Rattle.polar.specs.Relation.{Relation, wordBy, symbolsBy, row}
 
@@ -25,6 +26,10 @@ relations (suc (suc k)) =
 -- Bit j of the word of the symbols u: of vF, for the v that the relations tie to u.
 abbrev pub wordBit : ℕ → List Bool → ℕ → Bool
 wordBit k u j = wordBy F (relations k) u j
+
+-- The kernel's code: sixteen symbols make a word of sixteen places.
+abbrev pub kernelCode : ℕ → Code
+kernelCode k = record { size = 16; places = 16; word = wordBit k }
 
 -- The symbols of a word: those whose word it is.
 abbrev pub symbolsOf : ℕ → List Bool → List Bool

@@ -4,7 +4,7 @@ use mathlib.Core.Bool.{Bool, true, false, not, _&&_, and-assoc}
 use Prim.Native.Nat.{ℕ, _<_}
 use lib.Dec.{eqb}
 use Rattle.base.specs.Bit.{_⊕_, bit, parity, every}
-use Rattle.base.proofs.Bool.{⊕-same, parity-cong, parity-and, and-parity, parity-swap, parity-only, every-at}
+use Rattle.base.proofs.Bool.{parity-cong, parity-and, and-parity, parity-swap, parity-only, sameTable, same-table}
 use Rattle.base.proofs.List.{tabulate-at}
 use Rattle.polar.specs.Code.{Onto, UndoneBy}
 use Rattle.polar.specs.Kernel.{matrix, product, Inverse, Kernel, code, Invertible, inverted}
@@ -59,8 +59,8 @@ kernel-onto K i = undo-onto (code K) (code (inverted K i)) ((coder K i) .redo)
 
 -- The computed test of two matrices, and what it shows.
 unfoldable pub inverseTest : ℕ → (ℕ → ℕ → Bool) → (ℕ → ℕ → Bool) → Bool
-inverseTest n M N = every n (λ s. every n (λ j. not (product n M N s j ⊕ eqb s j)))
+inverseTest n M N = sameTable n n (product n M N) eqb
 
 pub tested : (n : ℕ) (M N : ℕ → ℕ → Bool) → inverseTest n M N ≡ true → Inverse n M N
 unfolding inverseTest
-tested n M N t s j ls lj = ⊕-same _ _ (every-at n _ (every-at n _ t s ls) j lj)
+tested n M N t s j ls lj = same-table n n (product n M N) eqb t s j ls lj

@@ -12,7 +12,7 @@ use Rattle.base.specs.Bit.{_⊕_, bit}
 use Rattle.base.proofs.Bool.{⊕-false}
 use Rattle.polar.specs.Code.{Code, Costs, sum, total, lowest, least}
 use Rattle.polar.specs.Relation.{Relation, sumOf, symbols}
-use Rattle.polar.specs.Window.{reach, height, readAt, IsWindow}
+use Rattle.polar.specs.Window.{reach, height, readAt, IsWindow, pathOf}
 use Rattle.polar.proofs.Lowest.{lowest-le, lowest-at, sum-cong}
 use Rattle.polar.proofs.Least.{least-le, least-at}
 use Rattle.polar.proofs.Relation.{within, allWithin, length-symbols, Solves, solvesTest, solves-by, same-bits, solved-bit, solved-symbols}
@@ -21,10 +21,6 @@ use Rattle.polar.proofs.Pigeon.{pigeon}
 -- The v at some places, as relations.
 abbrev pub singles : List ℕ → List Relation
 singles window = map (λ i. i ∷ []) window
-
--- The first v that have the symbols us, and x at the window's places.
-abbrev pub pathOf : List Relation → List Bool → List Bool → List Bool
-pathOf sol us x = symbols sol (us ++ x)
 
 -- What is computed of a window: the relations and the window's places fix the v that the relations use, and any choice of both is had by some v.
 pub record Windowed (rs : List Relation) (window : List ℕ) (sol : List Relation) : Type 0 where

@@ -1,7 +1,7 @@
 -- Decoding windows of a kernel given by relations. Assumes nothing.
 use mathlib.Core.Path.{_≡_}
 use mathlib.Core.Bool.{Bool}
-use mathlib.Core.List.{List, [], _∷_, map}
+use mathlib.Core.List.{List, [], _∷_, _++_, map}
 use Prim.Native.Nat.{ℕ, suc, _≤_, _<_, max}
 use lib.ListN.{length, getD}
 use Rattle.base.specs.Bit.{bit}
@@ -31,3 +31,7 @@ pub record IsWindow (rs : List Relation) (window : List ℕ) : Type 0 where
   pub inside : (i : ℕ) → i < length window → getD window i 0 < height rs
   pub fixes : Fixes rs window
   pub smallest : (set : List ℕ) → Fixes rs set → length window ≤ length set
+
+-- Proof side: the path that the symbols us and the bits x at the window's places choose, by relations that give each v from both.
+abbrev pub pathOf : List Relation → List Bool → List Bool → List Bool
+pathOf sol us x = symbols sol (us ++ x)

@@ -1,0 +1,94 @@
+-- A channel value of sixteen bits, widened, and what it pays. Assumes nothing.
+use mathlib.Core.Path.{_≡_, refl, ap, _∙_}
+use mathlib.Core.Bool.{Bool, true, false, true≢false}
+use mathlib.Core.List.{List}
+use Prim.Native.Nat.{ℕ, zero, suc, _^_, _≤_, _<_}
+use native.Mathlib.Omega.{arith}
+use borrow.Author.Tests.{ltb-true}
+use lib.Dec.{T}
+use lib.IntN.{ℤ, pos, negsuc, natAbs, negℤ, _-ℤ_, +ℤ-idl}
+use lib.ListN.{length, getD}
+use lib.Signed.{mag, ltZ, nonNeg}
+use mir.Facts.{toZ-ofZ, sfits-widen}
+use mir.Syntax.{w16, w32}
+use mir.Val.{Fits, SFits, toZ, ofZ}
+use Rattle.polar.specs.Code.{pay, channel}
+use Rattle.folds.specs.Range.{firstOutside}
+use Rattle.folds.proofs.Range.{outside-none}
+
+-- The value as the code has it: read at sixteen bits, and cast to thirty-two.
+abbrev pub wide : ℤ → ℤ
+wide y = toZ w32 (ofZ w32 (toZ w16 (ofZ w16 y)))
+
+neg-mag : (y : ℤ) → mag y < 2 ^ 15 → mag (negℤ y) < 2 ^ 31
+neg-mag (pos zero) h = omega arith
+neg-mag (pos (suc n)) h = omega arith
+neg-mag (negsuc n) h = omega arith
+
+neg-fit : (y : ℤ) → ltZ y (pos 0) ≡ true → mag y < 2 ^ 15 → T (nonNeg (negℤ y)) × Fits w32 (natAbs (negℤ y))
+neg-fit (pos n) t h = absurd (omega (arith, ltb-true n 0 t))
+neg-fit (negsuc n) t h = (tt, record { fits = omega arith })
+
+neg-pays : (y : ℤ) → ltZ y (pos 0) ≡ true → (natAbs (negℤ y) ≡ pay y false) × (0 ≡ pay y true)
+neg-pays (pos n) t = absurd (omega (arith, ltb-true n 0 t))
+neg-pays (negsuc n) t = (refl, refl)
+
+pos-fit : (y : ℤ) → ltZ y (pos 0) ≡ false → mag y < 2 ^ 15 → T (nonNeg y) × Fits w32 (natAbs y)
+pos-fit (pos n) t h = (tt, record { fits = omega arith })
+pos-fit (negsuc n) t h = absurd (true≢false t)
+
+pos-pays : (y : ℤ) → ltZ y (pos 0) ≡ false → (natAbs y ≡ pay y true) × (0 ≡ pay y false)
+pos-pays (pos n) t = (refl, refl)
+pos-pays (negsuc n) t = absurd (true≢false t)
+
+module _ (y : ℤ) (h : mag y < 2 ^ 15) where
+  fit : SFits w16 y
+  fit = record { sfits = h }
+
+  -- A value read at sixteen bits is the value.
+  pub read-is : toZ w16 (ofZ w16 y) ≡ y
+  read-is = toZ-ofZ fit
+
+  -- The cast to thirty-two bits loses nothing.
+  pub wide-fits : SFits w32 (toZ w16 (ofZ w16 y))
+  wide-fits = rw read-is (sfits-widen tt fit)
+
+  wide-is : wide y ≡ y
+  wide-is = toZ-ofZ wide-fits ∙ read-is
+
+  neg-is : pos 0 -ℤ wide y ≡ negℤ y
+  neg-is = ap (λ z. pos 0 -ℤ z) wide-is ∙ +ℤ-idl (negℤ y)
+
+  -- The negation loses nothing.
+  pub neg-fits : SFits w32 (pos 0 -ℤ wide y)
+  neg-fits = rw neg-is (record { sfits = neg-mag y h })
+
+  neg-back : toZ w32 (ofZ w32 (pos 0 -ℤ wide y)) ≡ negℤ y
+  neg-back = toZ-ofZ neg-fits ∙ neg-is
+
+  -- The size of a negative value is a number of thirty-two bits.
+  pub neg-cast : ltZ (wide y) (pos 0) ≡ true
+      → T (nonNeg (toZ w32 (ofZ w32 (pos 0 -ℤ wide y)))) × Fits w32 (natAbs (toZ w32 (ofZ w32 (pos 0 -ℤ wide y))))
+  neg-cast t = rw neg-back (neg-fit y (rw wide-is at t) h)
+
+  -- A negative value pays its size for bit 0, and nothing for bit 1.
+  pub neg-cost : ltZ (wide y) (pos 0) ≡ true → (natAbs (toZ w32 (ofZ w32 (pos 0 -ℤ wide y))) ≡ pay y false) × (0 ≡ pay y true)
+  neg-cost t = rw neg-back (neg-pays y (rw wide-is at t))
+
+  -- A value that is not negative is a number of thirty-two bits.
+  pub pos-cast : ltZ (wide y) (pos 0) ≡ false → T (nonNeg (wide y)) × Fits w32 (natAbs (wide y))
+  pos-cast t = rw wide-is (pos-fit y (rw wide-is at t) h)
+
+  -- A value that is not negative pays its size for bit 1, and nothing for bit 0.
+  pub pos-cost : ltZ (wide y) (pos 0) ≡ false → (natAbs (wide y) ≡ pay y true) × (0 ≡ pay y false)
+  pos-cost t = rw wide-is (pos-pays y (rw wide-is at t))
+
+pay-le : (y : ℤ) (n : ℕ) → natAbs y ≤ n → (b : Bool) → pay y b ≤ n
+pay-le (pos y) n h false = omega arith
+pay-le (pos y) n h true = h
+pay-le (negsuc y) n h false = h
+pay-le (negsuc y) n h true = omega arith
+
+-- Values none of which is outside the range pay at most its limit.
+pub channel-le : (limit : ℕ) (ys : List ℤ) → firstOutside limit ys ≡ length ys → (j : ℕ) (b : Bool) → j < length ys → channel ys j b ≤ limit
+channel-le limit ys e j b l = pay-le (getD ys j (pos 0)) limit (outside-none limit ys e j l) b

@@ -1,0 +1,30 @@
+-- Proof side: two rows of sixteen costs, and the greatest of a row of best scores. Assumes nothing.
+use mathlib.Core.Path.{_≡_}
+use mathlib.Core.Bool.{Bool}
+use mathlib.Core.List.{List, []}
+use Prim.Native.Nat.{ℕ, zero, suc, _≤_, _<_, min}
+use lib.ListN.{getD}
+use lib.IntN.{ℤ, pos}
+use lib.Signed.{_≤ℤ_}
+use Rattle.bits.specs.Packed.{digit}
+use Rattle.polar.specs.Code.{Costs}
+
+-- Row 0 has what each place pays for bit 0, row 1 what it pays for bit 1.
+abbrev pub costsOf : List (List ℕ) → Costs
+costsOf rows j b = getD (getD rows (digit b) []) j 0
+
+-- No place pays more than n.
+abbrev pub Within : ℕ → List (List ℕ) → Type 0
+Within n rows = (j : ℕ) (b : Bool) → costsOf rows j b ≤ n
+
+-- r is among the first n scores, and none of them is greater.
+pub record IsGreatest (row : List ℤ) (n : ℕ) (r : ℤ) : Type 0 where
+  pub place : ℕ
+  pub inside : place < n
+  pub had : getD row place (pos 0) ≡ r
+  pub top : (w : ℕ) → w < n → getD row w (pos 0) ≤ℤ r
+
+-- The least of g 0, g 1, .., g k.
+unfoldable pub leastTo : (ℕ → ℕ) → ℕ → ℕ
+leastTo g zero = g 0
+leastTo g (suc k) = min (leastTo g k) (g (suc k))
