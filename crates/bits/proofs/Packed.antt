@@ -4,7 +4,7 @@ use mathlib.Core.Bool.{Bool, true, false}
 use mathlib.Core.List.{List, [], _∷_, _++_, append-assoc, append-nil}
 use Prim.Native.Nat.{ℕ, zero, suc, _+_, _-_, _*_, _/_, _%_, _^_, _≤_, _<_, max}
 use native.Mathlib.Nat.{mod-lt, mod-one, mod-self, mod-eq-of-lt, div-self, div-eq-of-lt, zero-div, mul-add-mod-self-right, max-eq-right}
-use native.Mathlib.Nat.{zero-add, suc-add, suc-sub-suc, mul-suc, add-comm, zero-mul, one-mul, two-pow-succ, le-of-suc-le-suc, div-div-eq-div-mul}
+use native.Mathlib.Nat.{zero-add, suc-add, suc-sub-suc, mul-suc, mul-assoc, add-mul, add-comm, zero-mul, one-mul, two-pow-succ, le-of-suc-le-suc, div-div-eq-div-mul}
 use native.Mathlib.Numerals.{one-add, add-one}
 use native.Mathlib.Omega.{arith}
 use lib.Bits.{bitXor, bitOr, differ, xor-shr, xor-step, or-shr, or-step, or-mod, or-zero-r}
@@ -183,6 +183,22 @@ bits-number (b ∷ l) =
     (sym (bits-mod n x)
     ∙ ap (bits n) (mul-add-mod-self-right (digit b) (2 ^ n) (number l) ∙ mod-eq-of-lt (number-lt l))
     ∙ bits-number l)
+
+-- Bits after bits: the first ones count above the width of the others.
+pub number-append : (a b : List Bool) → number (a ++ b) ≡ number a * 2 ^ length b + number b
+unfolding number
+number-append [] b = omega (arith, zero-mul (2 ^ length b))
+number-append (c ∷ a) b =
+    let x : ℕ = 2 ^ length a in
+    let y : ℕ = 2 ^ length b in
+    ap₂ (λ p q. digit c * p + q) (ap (λ k. 2 ^ k) (length-append a b) ∙ pow-add 2 (length a) (length b)) (number-append a b)
+    ∙ omega (arith, mul-assoc (digit c) x y, add-mul (digit c * x) (number a) y)
+
+-- Cleared bits make 0.
+pub number-zeros : (n : ℕ) → number (replicate n false) ≡ 0
+unfolding number
+number-zeros zero = refl
+number-zeros (suc n) = omega (arith, zero-mul (2 ^ length (replicate n false)), number-zeros n)
 
 -- ---- the bits of bytes
 

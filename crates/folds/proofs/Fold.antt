@@ -33,12 +33,12 @@ known-pays : (half : ℕ) (x : ℕ → Bool) (m : Costs) (i : ℕ) (t y : Bool) 
 known-pays half x m i t y e = ap (λ z. m i (z ⊕ y) + m (half + i) y) (sym e)
 
 -- Where the known bit at place i is t, these two stores fill that place.
-pub known-step : (half : ℕ) (x : ℕ → Bool) (m : Costs) (i : ℕ) (out : List (List ℕ)) → Filled i (knownFold half x m) out → i < 16
+pub known-step : (half : ℕ) (x : ℕ → Bool) (m : Costs) (i : ℕ) (out : List (List ℕ)) → Filled 0 i (knownFold half x m) out → i < 16
     → (t : Bool) → x i ≡ t
-    → Filled (i + 1) (knownFold half x m) (store (store out false i (m i (t ⊕ false) + m (half + i) false)) true i (m i (t ⊕ true) + m (half + i) true))
-known-step half x m i out f l t e = fill-both i _ out f _ _ l (known-pays half x m i t false e) (known-pays half x m i t true e)
+    → Filled 0 (i + 1) (knownFold half x m) (store (store out false i (m i (t ⊕ false) + m (half + i) false)) true i (m i (t ⊕ true) + m (half + i) true))
+known-step half x m i out f l t e = fill-both 0 i _ out f _ _ l (known-pays half x m i t false e) (known-pays half x m i t true e)
 
-module _ (half : ℕ) (rows out : List (List ℕ)) (f : Filled half (freeFold half (costsOf (copied rows))) out) where
+module _ (half : ℕ) (rows out : List (List ℕ)) (f : Filled 0 half (freeFold half (costsOf (copied rows))) out) where
   -- The rows that the free fold leaves have its costs.
   pub free-folded : (j : ℕ) (b : Bool) → j < half → costsOf out j b ≡ freeFold half (costsOf rows) j b
   free-folded j b l =
@@ -53,7 +53,7 @@ module _ (half : ℕ) (rows out : List (List ℕ)) (f : Filled half (freeFold ha
       let g = copied-within rows n h in
       filled-within half _ out f (n + n) (λ j b l. omega (arith, g j b, g (half + j) false))
 
-module _ (half : ℕ) (x : ℕ → Bool) (rows out : List (List ℕ)) (f : Filled half (knownFold half x (costsOf (copied rows))) out) where
+module _ (half : ℕ) (x : ℕ → Bool) (rows out : List (List ℕ)) (f : Filled 0 half (knownFold half x (costsOf (copied rows))) out) where
   -- The rows that the fold at known bits leaves have its costs.
   pub known-folded : (j : ℕ) (b : Bool) → j < half → costsOf out j b ≡ knownFold half x (costsOf rows) j b
   known-folded j b l = f .done j b l ∙ ap₂ _+_ (copied-costs rows j (x j ⊕ b)) (copied-costs rows (half + j) b)

@@ -9,9 +9,13 @@ use lib.Signed.{_≤ℤ_}
 use Rattle.bits.specs.Packed.{digit}
 use Rattle.polar.specs.Code.{Costs}
 
+-- Entry j of the row of bit b, o past the end.
+abbrev pub cell : {X : Type 0} → X → List (List X) → ℕ → Bool → X
+cell o rows j b = getD (getD rows (digit b) []) j o
+
 -- Row 0 has what each place pays for bit 0, row 1 what it pays for bit 1.
 abbrev pub costsOf : List (List ℕ) → Costs
-costsOf rows j b = getD (getD rows (digit b) []) j 0
+costsOf rows = cell 0 rows
 
 -- No place pays more than n.
 abbrev pub Within : ℕ → List (List ℕ) → Type 0

@@ -122,7 +122,7 @@ const INVERSE_ROWS: [[u16; 16]; 3] = [
 ];
 
 // The sum of the rows that the bits of x choose.
-fn row_sum(rows: [u16; 16], x: u16) -> u16
+pub fn row_sum(rows: [u16; 16], x: u16) -> u16
     ensures { λ r. ⌜ r ≡ rowSum rows x ⌝ }
 {
     let mut c: u16 = 0;

@@ -10,13 +10,14 @@ use native.Mathlib.Omega.{arith}
 use lib.ListN.{length, getD, take, length-append}
 use lib.Seq.{take-suc, take-take, take-all, take-append-le, take-append-seam, getD-append-seam, getD-take, length-take-le}
 use lib.Dec.{ltb→lt}
-use lib.IntN.{ℤ, pos, negsuc}
+use lib.IntN.{ℤ, pos, negsuc, subℕ}
 use lib.Signed.{_≤ℤ_, _<ℤ_}
 use Rattle.base.specs.Bit.{bit, tabulate}
-use Rattle.base.proofs.List.{length-tabulate, tabulate-at, tabulate-next}
+use Rattle.base.proofs.List.{length-tabulate, tabulate-at, tabulate-cong, tabulate-next}
 use Rattle.polar.specs.Code.{Code, Costs, pay, least, score, Onto}
 use Rattle.polar.specs.Follow.{scores, penalties, choose, decodeFrom, decode}
 use Rattle.polar.specs.Stages.{rows, staged, soft}
+use Rattle.polar.proofs.Least.{least-cong, score-least}
 use Rattle.polar.proofs.Values.{penalty-next, layer-scores}
 
 snoc-length : (q : List Bool) (b : Bool) → length (q ++ (b ∷ [])) ≡ suc (length q)
@@ -57,6 +58,16 @@ length-scores C m u = length-tabulate (length u) _
 pub length-penalties : (C : Code) (m : Costs) (u : List Bool) → length (penalties C m u) ≡ length u
 unfolding penalties
 length-penalties C m u = length-tabulate (length u) _
+
+-- Costs that agree at the code's places give the same scores.
+pub scores-cong : (C : Code) {m m′ : Costs} → ((i : ℕ) → i < C .places → (b : Bool) → m i b ≡ m′ i b) → (u : List Bool) → scores C m u ≡ scores C m′ u
+unfolding scores
+scores-cong C {m} {m′} h u =
+    tabulate-cong (length u) (λ i _.
+    let p = take i u in
+    score-least C m p
+    ∙ ap₂ subℕ (least-cong C h (p ++ (true ∷ []))) (least-cong C h (p ++ (false ∷ [])))
+    ∙ sym (score-least C m′ p))
 
 -- The running penalty: each phase adds what its score pays for its symbol.
 pub penalty-runs : (C : Code) (m : Costs) (u : List Bool) (i : ℕ) → i < length u → length u ≤ C .size

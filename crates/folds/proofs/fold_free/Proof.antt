@@ -12,7 +12,7 @@ use Rattle.folds.proofs.fold_free.Statement.{statement}
 use Rattle.folds.proofs.fold_free.Tie as tie
 
 abbrev Inv-loop : tie.InvT-loop
-Inv-loop half a b out₀ i₀ out i = (i ≤ half) × Filled i (freeFold half (costsOf (a ∷ b ∷ []))) out
+Inv-loop half a b out₀ i₀ out i = (i ≤ half) × Filled 0 i (freeFold half (costsOf (a ∷ b ∷ []))) out
 
 abbrev μ-loop : tie.MeasureT-loop
 μ-loop half a b out₀ i₀ out i = half - i
@@ -24,7 +24,7 @@ array-copy-out-b : tie.Need-array-copy-out-b Inv-loop μ-loop
 array-copy-out-b c = search needs
 
 loop-holds : tie.Need-loop-holds Inv-loop μ-loop
-loop-holds c = (search needs, filled-none _)
+loop-holds c = (search needs, filled-none 0 _)
 
 mul-lesser : tie.Need-mul-lesser Inv-loop μ-loop
 mul-lesser c = search needs
@@ -143,7 +143,7 @@ loop-less c = search needs
 loop-again : tie.Need-loop-again Inv-loop μ-loop
 loop-again c =
     let k = c .before .before .before .loop in
-    (search needs, fill-both (k .i) _ (k .out) (k .inv .1) (c .before .lesser .result) (c .lesser2 .result) (search needs) (c .before .lesser .ensures) (c .lesser2 .ensures))
+    (search needs, fill-both 0 (k .i) _ (k .out) (k .inv .1) (c .before .lesser .result) (c .lesser2 .result) (search needs) (c .before .lesser .ensures) (c .lesser2 .ensures))
 
 returns : tie.Need-returns Inv-loop μ-loop
 returns c =

@@ -15,7 +15,7 @@ use Rattle.folds.proofs.fold_known.Statement.{statement}
 use Rattle.folds.proofs.fold_known.Tie as tie
 
 abbrev Inv-loop : tie.InvT-loop
-Inv-loop half word from a b out₀ i₀ out i = (i ≤ half) × Filled i (knownFold half (λ k. bit (bits 16 word) (from + k)) (costsOf (a ∷ b ∷ []))) out
+Inv-loop half word from a b out₀ i₀ out i = (i ≤ half) × Filled 0 i (knownFold half (λ k. bit (bits 16 word) (from + k)) (costsOf (a ∷ b ∷ []))) out
 
 abbrev μ-loop : tie.MeasureT-loop
 μ-loop half word from a b out₀ i₀ out i = half - i
@@ -27,7 +27,7 @@ array-copy-out-b : tie.Need-array-copy-out-b Inv-loop μ-loop
 array-copy-out-b c = search needs
 
 loop-holds : tie.Need-loop-holds Inv-loop μ-loop
-loop-holds c = (search needs, filled-none _)
+loop-holds c = (search needs, filled-none 0 _)
 
 add-word-bit : tie.Need-add-word-bit Inv-loop μ-loop
 add-word-bit c = search needs

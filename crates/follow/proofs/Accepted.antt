@@ -1,0 +1,71 @@
+-- What the acceptance of kernel follow's checks yields, and what the job leaves. Assumes nothing.
+use mathlib.Core.Path.{_≡_, sym, ap, ap₂, _∙_}
+use mathlib.Core.Bool.{Bool, true, false}
+use mathlib.Core.List.{List, _++_}
+use Prim.Native.Nat.{ℕ, _≤_, _<_}
+use native.Mathlib.Omega.{arith}
+use borrow.Author.Tests.{not-false, eqb-true, ltb-false}
+use lib.IntN.{ℤ}
+use lib.ListN.{length, drop}
+use Rattle.bits.specs.Packed.{bits}
+use Rattle.bits.proofs.Packed.{length-bits}
+use Rattle.answer.specs.Verdict.{Verdict, done, isAccepted, settle, after}
+use Rattle.answer.proofs.Settle.{None, none-of, settle-none, after-refused}
+use Rattle.polar.specs.Code.{Costs, channel}
+use Rattle.polar.specs.Follow.{scores}
+use Rattle.polar.proofs.Follow.{scores-cong, length-scores}
+use Rattle.folds.specs.Range.{firstOutside}
+use Rattle.folds.proofs.Range.{outside-le}
+use Rattle.kernel.specs.Kernels.{kernelCode}
+use Rattle.kernel.proofs.Checks.{kernel-lt}
+use Rattle.follow.specs.Jobs.{followChecks, kernelFollow}
+
+-- Inputs that pass all checks.
+pub record Accepted (k : ℕ) (values : List ℤ) (room : ℕ) : Type 0 where
+  pub known : k < 3
+  pub count : length values ≡ 16
+  pub room-enough : 16 ≤ room
+  pub inside : firstOutside 2047 values ≡ 16
+
+passes : (k : ℕ) (values : List ℤ) (room : ℕ) → None (followChecks k values room) → Accepted k values room
+unfolding followChecks
+passes k values room n =
+    let e = eqb-true (length values) 16 (not-false _ (n .1 .0)) in
+    let l = ltb-false (firstOutside 2047 values) (length values) (n .1 .1 .1 .0) in
+    record {
+      known = kernel-lt k (not-false _ (n .0));
+      count = e;
+      room-enough = ltb-false room 16 (n .1 .1 .0);
+      inside = omega (arith, outside-le 2047 values);
+    }
+
+module _ (k : ℕ) (values : List ℤ) (room : ℕ) (a : isAccepted (settle (followChecks k values room) done) ≡ true) where
+  -- Where the checks accept, the inputs pass them,
+  pub accepted : Accepted k values room
+  accepted = passes k values room (none-of (followChecks k values room) done a)
+
+  -- and the verdict is that all is done.
+  pub accepted-done : settle (followChecks k values room) done ≡ done
+  accepted-done = settle-none (followChecks k values room) done (none-of (followChecks k values room) done a)
+
+-- A refused job leaves its buffer.
+pub refused-job : (k : ℕ) (values : List ℤ) (symbols : ℕ) (out : List ℤ) (v : Verdict) → v ≡ settle (followChecks k values (length out)) done
+    → isAccepted v ≡ false → kernelFollow k values symbols out ≡ (v, out)
+unfolding kernelFollow
+refused-job k values symbols out v e r =
+    let new = scores (kernelCode k) (channel values) (bits 16 symbols) in
+    ap (λ (x : Verdict). (x, after x out new)) (sym e) ∙ ap (λ (l : List ℤ). (v, l)) (after-refused v out new r)
+
+-- An accepted job leaves the scores and what lies past them.
+pub accepted-job : (k : ℕ) (values : List ℤ) (symbols : ℕ) (out : List ℤ) → isAccepted (settle (followChecks k values (length out)) done) ≡ true
+    → (m : Costs) → ((j : ℕ) (b : Bool) → j < 16 → m j b ≡ channel values j b)
+    → (found last : List ℤ) → found ≡ scores (kernelCode k) m (bits 16 symbols) → last ≡ found ++ drop 16 out
+    → kernelFollow k values symbols out ≡ (done, last)
+unfolding kernelFollow
+accepted-job k values symbols out a m h found last f l =
+    let u = bits 16 symbols in
+    let new = scores (kernelCode k) (channel values) u in
+    let same : found ≡ new = f ∙ scores-cong (kernelCode k) (λ i li b. h i b li) u in
+    let long : length new ≡ 16 = length-scores (kernelCode k) (channel values) u ∙ length-bits 16 symbols in
+    ap (λ (x : Verdict). (x, after x out new)) (accepted-done k values (length out) a)
+    ∙ ap (λ (l : List ℤ). (done, l)) (ap₂ (λ (x : List ℤ) n. x ++ drop n out) (sym same) long ∙ sym l)

@@ -1,0 +1,84 @@
+-- The edges of kernel follow: the difference of two scores, and a copy of scores to a buffer. Assumes nothing.
+use mathlib.Core.Path.{_≡_, ap, ap₂, _∙_}
+use mathlib.Core.Bool.{Bool, true, false, cond}
+use mathlib.Core.List.{List, [], _++_}
+use Prim.Native.Nat.{ℕ, zero, suc, _+_, _-_, _≤_, _<_}
+use native.Mathlib.Nat.{zero-add}
+use native.Mathlib.Numerals.{add-one}
+use native.Mathlib.Omega.{arith}
+use lib.Dec.{ltb}
+use lib.IntN.{ℤ, pos, negsuc, natAbs, subℕ, _-ℤ_}
+use lib.ListN.{length, getD, take, drop, set}
+use lib.Seq.{paste-suc, take-all}
+use lib.Signed.{mag}
+use mir.Facts.{toZ-ofZ}
+use mir.Syntax.{w32}
+use mir.Val.{SFits, toZ, ofZ}
+use Rattle.folds.specs.Rows.{cell, IsGreatest}
+use Rattle.follow.specs.Paths.{Leads}
+
+-- ---- the difference of two scores
+
+-- A score as the code has it, in thirty-two bits.
+abbrev pub coded : ℤ → ℤ
+coded z = toZ w32 (ofZ w32 z)
+
+sub-mag : (a b m : ℕ) → a ≤ m → b ≤ m → mag (subℕ a b) ≤ m
+sub-mag a b m p q = go (ltb a b)
+  where
+    go : (t : Bool) → mag (cond t (negsuc (b - suc a)) (pos (a - b))) ≤ m
+    go true = omega arith
+    go false = omega arith
+
+less-mag : (m : ℕ) (x y : ℤ) → natAbs x ≤ m → natAbs y ≤ m → mag (x -ℤ y) ≤ m + m
+less-mag m (pos a) (pos zero) p q = omega arith
+less-mag m (pos a) (pos (suc b)) p q = sub-mag a (suc b) (m + m) (omega arith) (omega arith)
+less-mag m (pos a) (negsuc b) p q = omega arith
+less-mag m (negsuc a) (pos zero) p q = sub-mag 0 (suc a) (m + m) (omega arith) (omega arith)
+less-mag m (negsuc a) (pos (suc b)) p q = omega arith
+less-mag m (negsuc a) (negsuc b) p q = sub-mag (suc b) (suc a) (m + m) (omega arith) (omega arith)
+
+small-mag : (z : ℤ) (m : ℕ) → natAbs z ≤ m → mag z ≤ m
+small-mag (pos n) m h = h
+small-mag (negsuc n) m h = omega arith
+
+small-coded : (z : ℤ) → natAbs z ≤ 16777216 → coded z ≡ z
+small-coded z h = toZ-ofZ (record { sfits = omega (arith, small-mag z 16777216 h) })
+
+greatest-small : (m : ℕ) (row : List ℤ) (n : ℕ) (r : ℤ) → ((w : ℕ) → w < n → natAbs (getD row w (pos 0)) ≤ m) → IsGreatest row n r → natAbs r ≤ m
+greatest-small m row n r h g = rw (g .had) at (h (g .place) (g .inside))
+
+module _ (rows : List (List ℤ)) (n : ℕ) (h : (w : ℕ) (b : Bool) → w < n → natAbs (cell (pos 0) rows w b) ≤ 16777216)
+    (x y : ℤ) (gx : IsGreatest (getD rows 0 []) n x) (gy : IsGreatest (getD rows 1 []) n y) where
+  x-small : natAbs x ≤ 16777216
+  x-small = greatest-small 16777216 (getD rows 0 []) n x (λ w. h w false) gx
+
+  y-small : natAbs y ≤ 16777216
+  y-small = greatest-small 16777216 (getD rows 1 []) n y (λ w. h w true) gy
+
+  less-is : coded x -ℤ coded y ≡ x -ℤ y
+  less-is = ap₂ (λ a b. a -ℤ b) (small-coded x x-small) (small-coded y y-small)
+
+  -- The difference of the greatest scores of two bounded rows fits thirty-two bits,
+  pub lead-fits : SFits w32 (coded x -ℤ coded y)
+  lead-fits = rw less-is (record { sfits = omega (arith, less-mag 16777216 x y x-small y-small) })
+
+  -- and is the lead of row 0 over row 1.
+  pub lead-is : Leads rows n (coded (coded x -ℤ coded y))
+  lead-is = record { zero = x; one = y; zero-greatest = gx; one-greatest = gy; less = toZ-ofZ lead-fits ∙ less-is }
+
+-- ---- a copy to the front of a buffer
+
+-- The buffer with its first i entries replaced.
+abbrev pub copied : List ℤ → List ℤ → ℕ → List ℤ
+copied found old i = take i found ++ drop i old
+
+module _ (found old : List ℤ) where
+  -- One more entry is stored.
+  pub copy-one : (out : List ℤ) (i : ℕ) (z : ℤ) → i < length found → i < length old → z ≡ getD found i (pos 0)
+      → out ≡ copied found old i → set out i z ≡ copied found old (i + 1)
+  copy-one out i z f o e c = rw (e, c, add-one) (simp zero-add at (paste-suc old 0 found i (pos 0) (rw zero-add o) f))
+
+  -- All of them are stored.
+  pub copy-all : (n : ℕ) → length found ≡ n → copied found old n ≡ found ++ drop n old
+  copy-all n e = ap (λ l. l ++ drop n old) (take-all n found (omega arith))

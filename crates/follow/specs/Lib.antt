@@ -1,0 +1,4 @@
+pub mod Windows
+pub mod Tables
+pub mod Paths
+pub mod Jobs
