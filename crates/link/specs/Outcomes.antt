@@ -1,0 +1,16 @@
+-- What the C interface hands out for a verdict. Assumes nothing.
+use Rattle.answer.specs.Verdict.{Verdict, numberOf, placeOf, wordOf}
+use Rattle.link.specs.declared.Outcome.{Outcome}
+use Rattle.link.specs.declared.WordOutcome.{WordOutcome}
+
+-- The number and the place of a verdict.
+abbrev pub outcomeOf : Verdict → Outcome
+outcomeOf v = record { number = numberOf v; place = placeOf v }
+
+-- The same beside what a buffer holds afterwards.
+abbrev pub outcomeWith : {X : Type 0} → Verdict × X → Outcome × X
+outcomeWith (v, x) = (outcomeOf v, x)
+
+-- The number, the place and the word of a verdict.
+abbrev pub wordOutcomeOf : Verdict → WordOutcome
+wordOutcomeOf v = record { number = numberOf v; place = placeOf v; word = wordOf v }

@@ -1,0 +1,75 @@
+/*
+ * Nospridda: the jobs of the link, for C.
+ *
+ * Kernels are numbered 0, 1 and 2. Sixteen symbols or bits stand in one
+ * number, index 0 in the most significant bit.
+ *
+ * Every job answers with a number. 0 says that it was accepted; 1 to 9 is the
+ * first condition that held, in checking order, and the job did nothing else.
+ *
+ * Buffers are handed over as a pointer and then the count of elements. The
+ * pointer is never null, even where the count is 0, and is aligned for its
+ * type. Buffers handed to one call must not overlap. A refusal changes no
+ * buffer. An output buffer may be longer than needed: what lies past the
+ * written part stays as it was.
+ */
+#ifndef NOSPRIDDA_H
+#define NOSPRIDDA_H
+
+#include <stddef.h>
+#include <stdint.h>
+
+#ifdef __cplusplus
+extern "C" {
+#endif
+
+/* The numbers of an answer. */
+enum nospridda_number {
+    NOSPRIDDA_ACCEPTED = 0,
+    NOSPRIDDA_NO_KERNEL = 1,          /* a kernel number is not 0, 1 or 2 */
+    NOSPRIDDA_WRONG_LENGTH = 2,       /* an input other than a payload has not the length that its job names */
+    NOSPRIDDA_BAD_MASK = 3,           /* a mask marks no phase, or a count that is not a multiple of 8 */
+    NOSPRIDDA_WRONG_PAYLOAD = 4,      /* a payload to encode has not the bytes that its mask asks for */
+    NOSPRIDDA_SHORT_OUTPUT = 5,       /* an output buffer is shorter than the job needs */
+    NOSPRIDDA_VALUE_OUT_OF_RANGE = 6, /* a value lies outside the job's range; place: the lowest such value */
+    NOSPRIDDA_NOT_FINITE = 7,         /* a heard amplitude is NaN or infinite; place: the lowest such amplitude */
+    NOSPRIDDA_WRONG_SIZE = 8,         /* a payload size for the information mask is outside 1 to 32 */
+    NOSPRIDDA_FROZEN_ONE = 9          /* a word to undo has symbol 1 at an unmarked phase; place: the lowest such phase */
+};
+
+/* The outcome of a job without a word: the number, and the place that a
+ * refusal names, counted from 0; 0 where it names none. */
+struct nospridda_outcome {
+    uint32_t number;
+    size_t place;
+};
+
+/* The outcome of a job with a word; the word is 0 if the job was refused. */
+struct nospridda_word_outcome {
+    uint32_t number;
+    size_t place;
+    uint16_t word;
+};
+
+/* Kernel encode: the word of sixteen symbols. Refused by condition 1 only. */
+struct nospridda_word_outcome nospridda_kernel_encode(uint8_t kernel, uint16_t symbols);
+
+/* Kernel undo: the sixteen symbols of a word. Refused by condition 1 only. */
+struct nospridda_word_outcome nospridda_kernel_undo(uint8_t kernel, uint16_t word);
+
+/* Kernel follow: sixteen channel values, each from -2047 to 2047 and positive
+ * for bit 0, and sixteen symbols give sixteen scores. The score of a phase is
+ * the best score of the words that begin with the symbols before it and have 0
+ * next, less that of the words with 1 next. Refused by condition 1, 2 (not 16
+ * values), 5 (fewer than 16 scores) or 6. */
+struct nospridda_outcome nospridda_kernel_follow(
+    uint8_t kernel,
+    const int16_t *values, size_t values_length,
+    uint16_t symbols,
+    int16_t *scores, size_t scores_length);
+
+#ifdef __cplusplus
+}
+#endif
+
+#endif

@@ -1,0 +1,324 @@
+//! Kernel follow: every phase of every case against the best over all words.
+use crate::library::{kernel_follow, Outcome};
+use crate::paper::{bit, Kernel};
+use crate::random::Random;
+use crate::scores::{best_symbols, pay, scores, totals, Values};
+use crate::tally::Tally;
+use crate::traps::{self, Traps};
+
+/// How many cases of each kind of values with each kind of symbols.
+const CASES: u64 = 300;
+
+/// What an output buffer holds before a call: no score is as low.
+const UNTOUCHED: i16 = i16::MIN;
+
+const ACCEPTED: Outcome = Outcome {
+    number: 0,
+    place: 0,
+};
+
+fn refusal(number: u32, place: usize) -> Outcome {
+    Outcome { number, place }
+}
+
+pub fn sweep(tally: &mut Tally, kernels: &[Kernel]) {
+    let mut random = Random::new(1);
+    let mut mistakes = Traps::default();
+    for kernel in kernels {
+        random_cases(tally, kernel, &mut random, &mut mistakes);
+    }
+    mistakes.report(tally);
+    traps::named(tally, kernels);
+    bench_cases(tally, kernels);
+    limits(tally, kernels, &mut random);
+    out_of_range(tally, &mut random);
+    two_offenders(tally, &mut random);
+    lengths(tally, &mut random);
+    no_kernel(tally, &mut random);
+    conditions_at_once(tally, &mut random);
+}
+
+/// How values of a kind are made.
+type Make = fn(&mut Random, &Kernel) -> Values;
+
+/// The kinds of values.
+const KINDS: [(&str, Make); 5] = [
+    ("full range", |random, _| full_range(random)),
+    ("narrow", |random, _| each(|| random.between(-3, 3))),
+    ("many zeros", |random, _| {
+        each(|| match random.between(0, 7) {
+            0 => random.between(-2047, 2047),
+            1 => random.between(-3, 3),
+            _ => 0,
+        })
+    }),
+    ("many ties", |random, _| {
+        let magnitudes = [random.between(1, 3), random.between(1, 2047), 2047];
+        each(|| {
+            let y = magnitudes[random.between(0, 2) as usize];
+            if random.once_in(2) {
+                y
+            } else {
+                -y
+            }
+        })
+    }),
+    ("a word with noise", |random, kernel| {
+        let word = kernel.words[usize::from(random.word())];
+        std::array::from_fn(|i| {
+            let y = random.between(-300, 900);
+            if bit(word, i) {
+                -y
+            } else {
+                y
+            }
+        })
+    }),
+];
+
+/// Sixteen values, one after another.
+fn each(mut value: impl FnMut() -> i16) -> Values {
+    std::array::from_fn(|_| value())
+}
+
+fn full_range(random: &mut Random) -> Values {
+    each(|| random.between(-2047, 2047))
+}
+
+/// One accepted case: the outcome and all sixteen scores.
+fn compare(tally: &mut Tally, kernel: u8, values: &Values, symbols: u16, want: &[i32; 16]) {
+    let mut got = [UNTOUCHED; 16];
+    let outcome = kernel_follow(kernel, values, symbols, &mut got);
+    if outcome != ACCEPTED {
+        tally.wrong(format_args!(
+            "kernel {kernel}, values {values:?}, symbols {symbols:016b}: wanted {ACCEPTED:?}, got {outcome:?}"
+        ));
+    } else if let Some(phase) = (0..16).find(|&phase| i32::from(got[phase]) != want[phase]) {
+        let (want, got) = (want[phase], got[phase]);
+        tally.wrong(format_args!(
+            "kernel {kernel}, values {values:?}, symbols {symbols:016b}, phase {phase}: wanted {want}, got {got}"
+        ));
+    }
+}
+
+fn random_cases(tally: &mut Tally, kernel: &Kernel, random: &mut Random, mistakes: &mut Traps) {
+    let mut paid = Vec::new();
+    for (name, make) in KINDS {
+        for turn in 0..3 * CASES {
+            let values = make(random, kernel);
+            totals(kernel, &values, pay, &mut paid);
+            // Any symbols; those of the best word; those with up to two of them changed.
+            let symbols = match turn % 3 {
+                0 => random.word(),
+                1 => best_symbols(&paid),
+                _ => {
+                    best_symbols(&paid)
+                        ^ (1 << random.between(0, 15))
+                        ^ (1 << random.between(0, 15))
+                }
+            };
+            let want = scores(&paid, symbols);
+            compare(tally, kernel.number, &values, symbols, &want);
+            mistakes.watch(kernel, &values, symbols, &paid, &want);
+        }
+        let name = format!("kernel {}, follow, {name}", kernel.number);
+        tally.group(&name, 3 * CASES);
+    }
+}
+
+/// The paper's bench cases of kernel follow.
+fn bench_cases(tally: &mut Tally, kernels: &[Kernel]) {
+    let profiles: [[i32; 16]; 3] = [
+        [1, 2, 2, 4, 2, 4, 4, 8, 2, 4, 4, 8, 4, 8, 8, 16],
+        [1, 2, 2, 2, 2, 4, 4, 4, 4, 6, 6, 8, 8, 8, 8, 16],
+        [1, 2, 2, 4, 2, 2, 4, 4, 6, 6, 8, 8, 4, 8, 8, 16],
+    ];
+    let mut cases = 0;
+    for kernel in kernels {
+        let profile = profiles[usize::from(kernel.number)];
+        compare(tally, kernel.number, &[1; 16], 0, &profile);
+        let most = profile.map(|d| 2047 * d);
+        compare(tally, kernel.number, &[2047; 16], 0, &most);
+        cases += 2;
+        for symbols in (0..=u16::MAX).step_by(257) {
+            compare(tally, kernel.number, &[0; 16], symbols, &[0; 16]);
+            cases += 1;
+        }
+    }
+    tally.group("bench cases of follow", cases);
+}
+
+/// The ends of the range, at each place, at all places and by the bits of a word: all accepted.
+fn limits(tally: &mut Tally, kernels: &[Kernel], random: &mut Random) {
+    let mut paid = Vec::new();
+    let mut cases = 0;
+    for kernel in kernels {
+        let mut tried = vec![[2047; 16], [-2047; 16]];
+        for place in 0..16 {
+            for y in [2047, -2047] {
+                let mut values = full_range(random);
+                values[place] = y;
+                tried.push(values);
+            }
+            let word = kernel.words[usize::from(random.word())];
+            tried.push(std::array::from_fn(
+                |i| {
+                    if bit(word, i) {
+                        -2047
+                    } else {
+                        2047
+                    }
+                },
+            ));
+        }
+        for values in &tried {
+            totals(kernel, values, pay, &mut paid);
+            for symbols in [0, u16::MAX, random.word(), best_symbols(&paid)] {
+                let want = scores(&paid, symbols);
+                compare(tally, kernel.number, values, symbols, &want);
+                cases += 1;
+            }
+        }
+    }
+    tally.group("follow, ends of the range", cases);
+}
+
+/// One refused request: the outcome, and that the output stays as it was.
+fn refused(
+    tally: &mut Tally,
+    kernel: u8,
+    values: &[i16],
+    symbols: u16,
+    output: usize,
+    want: Outcome,
+) {
+    let before: Vec<i16> = (0..output).map(|i| 12345 - i as i16).collect();
+    let mut after = before.clone();
+    let got = kernel_follow(kernel, values, symbols, &mut after);
+    tally.expect(
+        got == want && after == before,
+        format_args!(
+            "kernel {kernel}, values {values:?}, symbols {symbols:016b}: wanted {want:?}, got {got:?}; \
+             the output was {before:?} before, {after:?} after"
+        ),
+    );
+}
+
+/// Values outside the range.
+const OUTSIDE: [i16; 5] = [2048, -2048, -32768, 32767, 2049];
+
+fn out_of_range(tally: &mut Tally, random: &mut Random) {
+    let mut cases = 0;
+    for kernel in 0..3 {
+        for y in OUTSIDE {
+            for place in 0..16 {
+                let mut values = full_range(random);
+                values[place] = y;
+                refused(tally, kernel, &values, random.word(), 16, refusal(6, place));
+                cases += 1;
+            }
+        }
+    }
+    tally.group("follow, a value out of range", cases);
+}
+
+fn two_offenders(tally: &mut Tally, random: &mut Random) {
+    let mut cases = 0;
+    for kernel in 0..3 {
+        for low in 0..16 {
+            for high in low + 1..16 {
+                for (first, second) in [(2048, -2048), (-2048, 2048), (2048, -32768)] {
+                    let mut values = full_range(random);
+                    values[low] = first;
+                    values[high] = second;
+                    refused(tally, kernel, &values, random.word(), 20, refusal(6, low));
+                    cases += 1;
+                }
+            }
+        }
+    }
+    tally.group("follow, two values out of range", cases);
+}
+
+fn lengths(tally: &mut Tally, random: &mut Random) {
+    let mut cases = 0;
+    for kernel in 0..3 {
+        for length in [0, 1, 15, 17, 32] {
+            let values: Vec<i16> = (0..length).map(|_| random.between(-2047, 2047)).collect();
+            refused(tally, kernel, &values, random.word(), 16, refusal(2, 0));
+            cases += 1;
+        }
+        for output in 0..16 {
+            let values = full_range(random);
+            refused(tally, kernel, &values, random.word(), output, refusal(5, 0));
+            cases += 1;
+        }
+        // Longer than needed: the scores come first, and the rest stays.
+        for output in [17, 20, 64] {
+            let (values, symbols) = (full_range(random), random.word());
+            let mut exact = [UNTOUCHED; 16];
+            let mut longer = vec![UNTOUCHED; output];
+            let outcomes = [
+                kernel_follow(kernel, &values, symbols, &mut exact),
+                kernel_follow(kernel, &values, symbols, &mut longer),
+            ];
+            tally.expect(
+                outcomes == [ACCEPTED; 2]
+                    && longer[..16] == exact
+                    && longer[16..].iter().all(|&score| score == UNTOUCHED),
+                format_args!(
+                    "kernel {kernel}, values {values:?}, symbols {symbols:016b}, output of {output}: {outcomes:?}, \
+                     wanted {exact:?} and {UNTOUCHED} after it, got {longer:?}"
+                ),
+            );
+            cases += 1;
+        }
+    }
+    tally.group("follow, lengths of values and output", cases);
+}
+
+/// Numbers that no kernel has, alone and with every other fault.
+fn no_kernel(tally: &mut Tally, random: &mut Random) {
+    let mut cases = 0;
+    for kernel in 3..=u8::MAX {
+        let (values, symbols) = (full_range(random), random.word());
+        refused(tally, kernel, &values, symbols, 16, refusal(1, 0));
+        refused(tally, kernel, &[2048; 17], symbols, 15, refusal(1, 0));
+        cases += 2;
+    }
+    tally.group("follow, kernels 3 to 255 refused", cases);
+}
+
+/// Every choice of the four conditions, the neighbouring pairs among them: the first in checking order is named.
+fn conditions_at_once(tally: &mut Tally, random: &mut Random) {
+    let conditions = [1, 2, 5, 6];
+    let mut cases = 0;
+    for choice in 1..16u32 {
+        let holds = |condition: u32| {
+            conditions
+                .iter()
+                .position(|&c| c == condition)
+                .is_some_and(|i| (choice >> i) & 1 == 1)
+        };
+        let number = *conditions.iter().find(|&&c| holds(c)).unwrap();
+        for place in 0..15 {
+            let kernel = if holds(1) {
+                3
+            } else {
+                random.between(0, 2) as u8
+            };
+            let mut values = full_range(random).to_vec();
+            if holds(6) {
+                values[place] = 2048;
+            }
+            if holds(2) {
+                values.truncate(15);
+            }
+            let output = if holds(5) { 15 } else { 16 };
+            let want = refusal(number, if number == 6 { place } else { 0 });
+            refused(tally, kernel, &values, random.word(), output, want);
+            cases += 1;
+        }
+    }
+    tally.group("follow, conditions 1, 2, 5 and 6 at once", cases);
+}

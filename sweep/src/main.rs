@@ -1,0 +1,45 @@
+//! The sweep: the library against code written from the paper. It ends with one line, `sweep: N cases, M wrong`, and
+//! with status 1 where a case is wrong.
+//!
+//! `sweep bench` prints times; `sweep calls JOB KERNEL COUNT` only makes calls, for a count of instructions.
+mod bench;
+mod follow;
+mod kernels;
+mod library;
+mod paper;
+mod random;
+mod scores;
+mod tally;
+mod traps;
+
+use std::env;
+use std::process::ExitCode;
+
+use paper::Kernel;
+use tally::Tally;
+
+fn main() -> ExitCode {
+    let words: Vec<String> = env::args().skip(1).collect();
+    let words: Vec<&str> = words.iter().map(String::as_str).collect();
+    match words[..] {
+        [] => sweep(),
+        ["bench"] => bench::times(),
+        ["calls", job, kernel, count] => bench::calls(job, kernel, count),
+        _ => {
+            eprintln!("usage: sweep [bench | calls JOB KERNEL COUNT]");
+            ExitCode::from(2)
+        }
+    }
+}
+
+fn sweep() -> ExitCode {
+    let mut tally = Tally::default();
+    let all: Vec<Kernel> = (0..3).map(Kernel::new).collect();
+    kernels::sweep(&mut tally, &all);
+    follow::sweep(&mut tally, &all);
+    if tally.end() {
+        ExitCode::SUCCESS
+    } else {
+        ExitCode::FAILURE
+    }
+}
