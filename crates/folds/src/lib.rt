@@ -100,9 +100,9 @@ pub fn fold_known(rows: [[u32; 16]; 2], half: usize, word: u16, from: usize) -> 
 }
 
 // The greatest of the first n scores.
-pub fn greatest(row: [i32; 16], n: usize) -> i32
+pub fn greatest(row: &[i32; 16], n: usize) -> i32
     requires { ⌜ (0 < n) × (n ≤ 16) ⌝ }
-    ensures { λ r. ⌜ IsGreatest row n r ⌝ }
+    ensures { λ r. ⌜ IsGreatest (now (row .entry)) n r ⌝ }
 {
     let mut m = row[0];
     let mut i: usize = 1;

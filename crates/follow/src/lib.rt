@@ -192,13 +192,13 @@ pub fn step(
 }
 
 // The greatest of the first n entries of row 0, less that of row 1.
-pub fn difference(rows: [[i32; 16]; 2], n: usize) -> i32
+pub fn difference(rows: &[[i32; 16]; 2], n: usize) -> i32
     requires { ⌜ (0 < n) × (n ≤ 16) ⌝ }
-    requires { ⌜ ((w : ℕ) (b : Bool) → w < n → natAbs (cell (pos 0) rows w b) ≤ 16777216) ⌝ }
-    ensures { λ r. ⌜ Leads rows n r ⌝ }
+    requires { ⌜ ((w : ℕ) (b : Bool) → w < n → natAbs (cell (pos 0) (now rows) w b) ≤ 16777216) ⌝ }
+    ensures { λ r. ⌜ Leads (now (rows .entry)) n r ⌝ }
 {
-    let zero = folds::greatest(rows[0], n);
-    let one = folds::greatest(rows[1], n);
+    let zero = folds::greatest(&rows[0], n);
+    let one = folds::greatest(&rows[1], n);
     zero - one
 }
 
@@ -232,7 +232,7 @@ fn follow(kernel: usize, costs: [[u32; 16]; 2], symbols: u16) -> [i16; 16]
         let shape = shapes[s];
         let rows = step(kernel, s, shape, tables[s], costs, symbols, kept);
         let high = shape[0] as usize;
-        out[s] = difference(rows, 1 << (high - s)) as i16;
+        out[s] = difference(&rows, 1 << (high - s)) as i16;
         let own = bits::word_bit(symbols, s) as usize;
         let chosen = rows[own];
         kept = chosen;

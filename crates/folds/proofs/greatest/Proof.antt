@@ -18,22 +18,22 @@ read-is : (x : ℤ) → mag x < 2 ^ 31 → toZ w32 (ofZ w32 x) ≡ x
 read-is x h = toZ-ofZ (sfits-of h)
 
 abbrev Inv-loop : tie.InvT-loop
-Inv-loop n row m₀ i₀ m i = (i ≤ n) × IsGreatest row i (toZ w32 m)
+Inv-loop row n m₀ i₀ m i = (i ≤ n) × IsGreatest row i (toZ w32 m)
 
 abbrev μ-loop : tie.MeasureT-loop
-μ-loop n row m₀ i₀ m i = n - i
+μ-loop row n m₀ i₀ m i = n - i
 
-array-copy-out-m : tie.Need-array-copy-out-m Inv-loop μ-loop
-array-copy-out-m c = search needs
+element-copy-out-m : tie.Need-element-copy-out-m Inv-loop μ-loop
+element-copy-out-m c = search needs
 
 loop-holds : tie.Need-loop-holds Inv-loop μ-loop
-loop-holds c = (search needs, rw (read-is (getD (c .before .args .t1) 0 (pos 0)) (c .m .given)) (greatest-one (c .before .args .t1)))
+loop-holds c = (search needs, rw (read-is (getD (c .before .args .row .now) 0 (pos 0)) (c .m .given)) (greatest-one (c .before .args .row .now)))
 
 mul-x : tie.Need-mul-x Inv-loop μ-loop
 mul-x c = search needs
 
-array-copy-out-x : tie.Need-array-copy-out-x Inv-loop μ-loop
-array-copy-out-x c = search needs
+element-copy-out-x : tie.Need-element-copy-out-x Inv-loop μ-loop
+element-copy-out-x c = search needs
 
 add-i : tie.Need-add-i Inv-loop μ-loop
 add-i c = search needs
@@ -44,7 +44,7 @@ loop-less c = search needs
 loop-again : tie.Need-loop-again Inv-loop μ-loop
 loop-again c =
     let k = c .before .before .before .loop in
-    let row = c .before .before .before .before .before .args .t1 in
+    let row = c .before .before .before .before .before .args .row .now in
     let e = read-is (getD row (k .i) (pos 0)) (c .before .x .given) in
     ⊎-elim
     (λ w. (search needs, rw (w .1, e) (greatest-new row (k .i) (toZ w32 (k .m)) (k .inv .1) (rw e at (w .0 .taken)))))
@@ -62,10 +62,10 @@ greatest-spec =
     (tie.spec
     Inv-loop
     μ-loop
-    array-copy-out-m
+    element-copy-out-m
     loop-holds
     mul-x
-    array-copy-out-x
+    element-copy-out-x
     add-i
     loop-less
     loop-again

@@ -4,14 +4,14 @@ use Rattle.follow.proofs.Edges.{lead-fits, lead-is}
 use Rattle.follow.proofs.difference.Statement.{statement}
 use Rattle.follow.proofs.difference.Tie as tie
 
-array-copy-out-greatest : tie.Need-array-copy-out-greatest
-array-copy-out-greatest c = search needs
+index-1-greatest : tie.Need-index-1-greatest
+index-1-greatest c = search needs
 
 greatest-requires : tie.Need-greatest-requires
 greatest-requires c κs = search needs
 
-array-copy-out-greatest-2 : tie.Need-array-copy-out-greatest-2
-array-copy-out-greatest-2 c = search needs
+index-1-greatest-2 : tie.Need-index-1-greatest-2
+index-1-greatest-2 c = search needs
 
 greatest-requires-2 : tie.Need-greatest-requires-2
 greatest-requires-2 c κs = search needs
@@ -20,21 +20,21 @@ sub-result : tie.Need-sub-result
 sub-result c =
     let g = c .before .before in
     let s = g .before .before in
-    lead-fits (s .args .t1) (s .args .n) (s .pre .1) (g .greatest .result) (c .greatest2 .result) (g .greatest .ensures) (c .greatest2 .ensures)
+    lead-fits (s .args .rows .now) (s .args .n) (s .pre .1) (g .greatest .result) (c .greatest2 .result) (g .greatest .ensures) (c .greatest2 .ensures)
 
 returns : tie.Need-returns
 returns c =
     let g = c .before .before in
     let s = g .before .before in
-    lead-is (s .args .t1) (s .args .n) (s .pre .1) (g .greatest .result) (c .greatest2 .result) (g .greatest .ensures) (c .greatest2 .ensures)
+    lead-is (s .args .rows .now) (s .args .n) (s .pre .1) (g .greatest .result) (c .greatest2 .result) (g .greatest .ensures) (c .greatest2 .ensures)
 
 pub difference-spec : {M : Type 1} → statement M
 difference-spec =
     tie.close
     (tie.spec
-    array-copy-out-greatest
+    index-1-greatest
     greatest-requires
-    array-copy-out-greatest-2
+    index-1-greatest-2
     greatest-requires-2
     sub-result
     returns)

@@ -71,28 +71,28 @@ cast-high c =
 
 sub-difference : tie.Need-sub-difference Inv-loop μ-loop
 sub-difference c =
-    let d = c .before .before .before .before in
+    let d = c .before .before .before .before .before in
     let r = d .before .before .before in
     let a = r .args in
     (range (a .kernel) (r .pre .0) (a .costs) (r .pre .1) (a .symbols) (d .before .before .shapes-of .result) (d .before .before .shapes-of .ensures) (d .loop .s) (search needs)) .0
 
 shl-difference : tie.Need-shl-difference Inv-loop μ-loop
 shl-difference c =
-    let d = c .before .before .before .before in
+    let d = c .before .before .before .before .before in
     let r = d .before .before .before in
     let a = r .args in
     omega (arith, (range (a .kernel) (r .pre .0) (a .costs) (r .pre .1) (a .symbols) (d .before .before .shapes-of .result) (d .before .before .shapes-of .ensures) (d .loop .s) (search needs)) .2)
 
 difference-requires : tie.Need-difference-requires Inv-loop μ-loop
 difference-requires c κs =
-    let d = c .before .before .before .before in
+    let d = c .before .before .before .before .before in
     let r = d .before .before .before in
     let a = r .args in
-    difference-asks (a .kernel) (r .pre .0) (a .costs) (r .pre .1) (a .symbols) (d .before .before .shapes-of .result) (d .before .before .shapes-of .ensures) (d .loop .s) (search needs) (c .step .result) (c .step .ensures)
+    difference-asks (a .kernel) (r .pre .0) (a .costs) (r .pre .1) (a .symbols) (d .before .before .shapes-of .result) (d .before .before .shapes-of .ensures) (d .loop .s) (search needs) (c .before .step .result) (c .before .step .ensures)
 
 cast-out : tie.Need-cast-out Inv-loop μ-loop
 cast-out c =
-    let e = c .before in
+    let e = c .before .before in
     let d = e .before .before .before .before in
     let r = d .before .before .before in
     let a = r .args in
@@ -128,7 +128,7 @@ loop-less c = search needs
 loop-again : tie.Need-loop-again Inv-loop μ-loop
 loop-again c =
     let f = c .before .before in
-    let e = f .before in
+    let e = f .before .before in
     let d = e .before .before .before .before in
     let r = d .before .before .before in
     let a = r .args in
