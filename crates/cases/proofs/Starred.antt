@@ -1,24 +1,67 @@
 -- Every starred case holds: one computed test over the table, and what it shows of each case. Assumes nothing.
-use mathlib.Core.Path.{_≡_, refl, sym, ap, _∙_}
-use mathlib.Core.Bool.{Bool, true, _&&_, and-eq-true-iff}
-use mathlib.Core.List.{List, [], _∷_}
+use mathlib.Core.Path.{_≡_, refl, sym, ap, ap₂, _∙_}
+use mathlib.Core.Bool.{Bool, true, false, _&&_, and-eq-true-iff, false≢true}
+use mathlib.Core.List.{List, [], _∷_, append-nil}
 use Prim.Native.Nat.{ℕ}
+use native.Mathlib.Omega.{arith}
 use borrow.Author.Tests.{eqb-true}
 use lib.Dec.{eqb}
-use lib.ListN.{getD}
-use Rattle.base.specs.Bit.{tabulate, parity}
+use lib.IntN.{ℤ, pos, negsuc}
+use lib.ListN.{getD, replicate}
+use Rattle.base.specs.Bit.{tabulate, parity, every}
 use Rattle.bits.specs.Packed.{bits, number}
-use Rattle.answer.specs.Verdict.{word}
-use Rattle.polar.specs.Relation.{unit}
+use Rattle.bits.proofs.Packed.{length-bits}
+use Rattle.answer.specs.Verdict.{word, done, isAccepted, settle}
+use Rattle.polar.specs.Code.{channel}
+use Rattle.polar.specs.Kernel.{arikan}
+use Rattle.polar.specs.Relation.{unit, sumOf, symbols}
+use Rattle.polar.specs.Fold.{folded, blocks}
+use Rattle.folds.specs.Range.{firstOutside}
+use Rattle.folds.specs.Rows.{leastTo}
 use Rattle.kernel.specs.Rows.{rowSum, table}
 use Rattle.kernel.specs.Jobs.{isKernel, encoded}
 use Rattle.kernel.proofs.Table.{encoded-rows}
 use Rattle.kernel.proofs.Checks.{kernel-lt, kernel-passed}
-use Rattle.cases.specs.Cases.{Case, encoding, Holds, starred, AllHold}
+use Rattle.follow.specs.Windows.{windows, solutions}
+use Rattle.follow.specs.Jobs.{followChecks}
+use Rattle.follow.proofs.Accepted.{accepted, accepted-job}
+use Rattle.profiles.proofs.Computed.{pathBy, leastBy, scoresBy, scores-by}
+use Rattle.cases.specs.Cases.{Case, encoding, following, Holds, starred, AllHold}
+
+-- Whether two scores are the same, and two lists of them.
+unfoldable sameScore : ℤ → ℤ → Bool
+sameScore (pos a) (pos b) = eqb a b
+sameScore (pos a) (negsuc b) = false
+sameScore (negsuc a) (pos b) = false
+sameScore (negsuc a) (negsuc b) = eqb a b
+
+score-eq : (x y : ℤ) → sameScore x y ≡ true → x ≡ y
+unfolding sameScore
+score-eq (pos a) (pos b) e = ap pos (eqb-true a b e)
+score-eq (pos a) (negsuc b) e = absurd (false≢true e)
+score-eq (negsuc a) (pos b) e = absurd (false≢true e)
+score-eq (negsuc a) (negsuc b) e = ap negsuc (eqb-true a b e)
+
+unfoldable sameScores : List ℤ → List ℤ → Bool
+sameScores [] [] = true
+sameScores [] (y ∷ t) = false
+sameScores (x ∷ s) [] = false
+sameScores (x ∷ s) (y ∷ t) = sameScore x y && sameScores s t
+
+scores-eq : (s t : List ℤ) → sameScores s t ≡ true → s ≡ t
+unfolding sameScores
+scores-eq [] [] e = refl
+scores-eq [] (y ∷ t) e = absurd (false≢true e)
+scores-eq (x ∷ s) [] e = absurd (false≢true e)
+scores-eq (x ∷ s) (y ∷ t) e =
+    let h = (and-eq-true-iff (sameScore x y) (sameScores s t)) .0 e in
+    ap₂ (λ z (l : List ℤ). z ∷ l) (score-eq x y (h .0)) (scores-eq s t (h .1))
 
 -- What is computed of a case.
 unfoldable test : Case → Bool
 test (encoding k s w) = isKernel k && eqb (rowSum (getD table k []) (number (unit 16 s))) w
+test (following k value scores) =
+    isAccepted (settle (followChecks k (replicate 16 value) 16) done) && sameScores (scoresBy k (channel (replicate 16 value)) (bits 16 0)) scores
 
 shown : (c : Case) → test c ≡ true → Holds c
 unfolding test
@@ -27,6 +70,11 @@ shown (encoding k s w) t =
     let u : ℕ = number (unit 16 s) in
     sym (kernel-passed k (word (encoded k u)) (h .0))
     ∙ ap word (sym (encoded-rows k u (kernel-lt k (h .0))) ∙ eqb-true (rowSum (getD table k []) u) w (h .1))
+shown (following k value scores) t =
+    let values = replicate 16 value in
+    let h = (and-eq-true-iff (isAccepted (settle (followChecks k values 16) done)) _) .0 t in
+    let by = scores-by k ((accepted k values 16 (h .0)) .known) (channel values) (bits 16 0) (omega (arith, length-bits 16 0)) in
+    accepted-job k values 0 (replicate 16 (pos 0)) (h .0) (channel values) (λ j b l. refl) scores scores (sym (by ∙ scores-eq _ scores (h .1))) (sym (append-nil scores))
 
 unfoldable tests : List Case → Bool
 tests [] = true
@@ -40,5 +88,5 @@ all-shown (c ∷ cs) t =
     (shown c (h .0), all-shown cs (h .1))
 
 pub starred-hold : AllHold starred
-unfolding tests test isKernel rowSum bits number tabulate parity
+unfolding tests test isKernel rowSum bits number tabulate parity sameScore sameScores followChecks firstOutside scoresBy leastBy pathBy leastTo windows solutions symbols sumOf folded blocks arikan every
 starred-hold = all-shown starred refl

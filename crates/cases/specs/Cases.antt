@@ -1,22 +1,29 @@
 -- The starred bench cases, as one table of what the definitions give. Assumes nothing.
 use mathlib.Core.Path.{_≡_}
-use mathlib.Core.List.{List, [], _∷_}
+use mathlib.Core.List.{List, [], _∷_, map}
 use Prim.Native.Nat.{ℕ}
+use lib.IntN.{ℤ, pos}
+use lib.ListN.{replicate}
 use Rattle.bits.specs.Packed.{number}
-use Rattle.answer.specs.Verdict.{word}
+use Rattle.answer.specs.Verdict.{word, done}
 use Rattle.polar.specs.Relation.{unit}
 use Rattle.kernel.specs.Jobs.{kernelEncode}
+use Rattle.kernel.specs.Profiles.{profileTable}
+use Rattle.follow.specs.Jobs.{kernelFollow}
 
 -- A case of the table.
 pub data Case : Type 0 where
   -- Kernel k, only symbol s set: the word w.
   encoding : (k s w : ℕ) → Case
+  -- Kernel k, all sixteen values the same, symbols 0: the sixteen scores.
+  following : (k : ℕ) (value : ℤ) (scores : List ℤ) → Case
 
 -- What a case says.
 abbrev pub Holds : Case → Type 0
 Holds (encoding k s w) = kernelEncode k (number (unit 16 s)) ≡ word w
+Holds (following k value scores) = kernelFollow k (replicate 16 value) 0 (replicate 16 (pos 0)) ≡ (done, scores)
 
--- The table.
+-- The table. Where all values are 1, the scores are the profile numbers.
 abbrev pub starred : List Case
 starred =
     encoding 1 9 0xa6c0
@@ -24,6 +31,12 @@ starred =
     ∷ encoding 1 10 0x6ca0
     ∷ encoding 1 5 0xc0c0
     ∷ encoding 0 5 0xcc00
+    ∷ following 0 (pos 1) (map pos (profileTable 0))
+    ∷ following 1 (pos 1) (map pos (profileTable 1))
+    ∷ following 2 (pos 1) (map pos (profileTable 2))
+    ∷ following 0 (pos 0) (replicate 16 (pos 0))
+    ∷ following 1 (pos 0) (replicate 16 (pos 0))
+    ∷ following 2 (pos 0) (replicate 16 (pos 0))
     ∷ []
 
 -- Every case of a table holds.

@@ -103,7 +103,7 @@ module _ (k s : ℕ) (lk : k < 3) (ls : s < 16) (m : Costs) (us : List Bool) (lu
       (again k s lk ls f) b (chosen us b ws) (choice-of b w)))
 
   -- The least total of the kernel's words that begin with us and b, by the paths of the window.
-  by-paths : (b : Bool) → least (kernelCode k) m (us ++ (b ∷ []))
+  pub by-paths : (b : Bool) → least (kernelCode k) m (us ++ (b ∷ []))
       ≡ leastTo (λ w. least vCode m (pathOf (solution k (suc s)) (us ++ (b ∷ [])) (bits (length (window k (suc s))) w))) (2 ^ length (window k (suc s)) - 1)
   by-paths b =
       let rs = relations k in

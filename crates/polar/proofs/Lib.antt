@@ -12,3 +12,4 @@ pub mod Pigeon
 pub mod Window
 pub mod Fold
 pub mod Folded
+pub mod Profile
