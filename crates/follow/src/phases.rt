@@ -777,7 +777,7 @@ pub const PATHS: [[[u16; 16]; 16]; 3] = [
             0x00c0,
             0x0020,
             0xcc20,
-            0xaae0,
+            0xaae0, // kernel 2, phase 7, v6
             0xff00,
             0x0000,
             0x0000,

@@ -1,0 +1,299 @@
+// Kernel follow at its edges: the ends of the range, every refusal and which of two comes first, and the traps of the paper.
+ghost use Prim.Native.Nat.{_<_};
+use answer::Answer;
+use libc::STDOUT_FILENO;
+
+// What a buffer of twenty scores holds before a job.
+const BEFORE: [i16; 20] = [
+    -901,
+    -902,
+    -903,
+    -904,
+    -905,
+    -906,
+    -907,
+    -908,
+    -909,
+    -910,
+    -911,
+    -912,
+    -913,
+    -914,
+    -915,
+    -916,
+    -917,
+    -918,
+    -919,
+    -920,
+];
+
+// The same of fifteen.
+const SHORT: [i16; 15] = [
+    -901,
+    -902,
+    -903,
+    -904,
+    -905,
+    -906,
+    -907,
+    -908,
+    -909,
+    -910,
+    -911,
+    -912,
+    -913,
+    -914,
+    -915,
+];
+
+// Two offenders, at places 3 and 11.
+const HIGH_THEN_LOW: [i16; 16] = [0, 0, 0, 2048, 0, 0, 0, 0, 0, 0, 0, -2048, 0, 0, 0, 0];
+
+// The same two exchanged.
+const LOW_THEN_HIGH: [i16; 16] = [0, 0, 0, -2048, 0, 0, 0, 0, 0, 0, 0, 2048, 0, 0, 0, 0];
+
+// Fifteen values with an offender at place 3.
+const FEW_WITH_HIGH: [i16; 15] = [0, 0, 0, 2048, 0, 0, 0, 0, 0, 0, 0, 0, 0, 0, 0];
+
+// With v9 fixed at phase 7 of kernel 2 the score there would be 1; with the row of the other symbol at phase 8, -1.
+const V9_FIXED: [i16; 16] = [-1, 0, 0, 0, 0, 0, 0, -1, 0, 0, 0, 1, 1, 0, 0, 0];
+
+// With v9 fixed at phase 7 of kernel 2, after u6 = 1, it would be -1.
+const V9_FIXED_U6: [i16; 16] = [2, 1, 0, 0, 2, 0, 0, 1, 1, -1, 0, 1, 0, 0, 0, 0];
+
+// With the row of the other symbol at phase 7 of kernel 1 it would be 1.
+const OTHER_ROW_1_7: [i16; 16] = [0, -1, -1, 2, 0, 0, 0, 1, 0, 2, 0, 0, 0, 0, -1, 0];
+
+// The same at phase 10 of kernel 1.
+const OTHER_ROW_1_10: [i16; 16] = [1, 0, 0, 0, 0, 0, 0, -1, 0, 0, -1, 0, 0, -1, 0, 0];
+
+// At phase 9 of kernel 2 it would be -1.
+const OTHER_ROW_2_9: [i16; 16] = [0, 0, 0, 0, 1, 0, 1, 0, 0, 0, 0, 0, 1, 0, 1, 0];
+
+// With a zero value that pays 1 for bit 1 the last score would be 20.
+const ZERO_PAYS: [i16; 16] = [0, 0, 0, 0, 0, 0, 0, 5, 0, 0, 0, 0, 0, 0, 0, 0];
+
+// Whether two buffers are of one length and agree from an index on.
+fn same_from(a: &[i16], b: &[i16], from: usize) -> bool {
+    if a.len() != b.len() {
+        return false;
+    }
+    let mut i = from;
+    while i < a.len() {
+        if a[i] != b[i] {
+            return false;
+        }
+        i += 1;
+    }
+    true
+}
+
+// How far a number lies from 0.
+fn size(x: i16) -> u32 {
+    let y = x as i32;
+    if y < 0 { (0 - y) as u32 } else { y as u32 }
+}
+
+fn say_score(x: i16) {
+    if x < 0 {
+        io::write_all(STDOUT_FILENO, b" -");
+    } else {
+        io::write_all(STDOUT_FILENO, b" ");
+    }
+    io::print_decimal(STDOUT_FILENO, size(x) as u64);
+}
+
+// A label, the number and the place.
+fn say_answer(label: &[u8], a: Answer) {
+    io::write_all(STDOUT_FILENO, label);
+    io::write_all(STDOUT_FILENO, b": ");
+    io::print_decimal(STDOUT_FILENO, answer::number(a) as u64);
+    io::write_all(STDOUT_FILENO, b" ");
+    io::print_decimal(STDOUT_FILENO, answer::place(a) as u64);
+}
+
+fn say_kept(kept: bool) {
+    if kept {
+        io::write_all(STDOUT_FILENO, b", kept\n");
+    } else {
+        io::write_all(STDOUT_FILENO, b", changed\n");
+    }
+}
+
+// A job that is refused, and whether its buffer of twenty is as before.
+fn refuse(label: &[u8], kernel: u8, values: &[i16]) {
+    let before = BEFORE;
+    let mut scores = BEFORE;
+    say_answer(label, follow::kernel_follow(kernel, values, 0, &mut scores));
+    say_kept(same_from(&scores, &before, 0));
+}
+
+// The same with a buffer of fifteen.
+fn refuse_short(label: &[u8], kernel: u8, values: &[i16]) {
+    let before = SHORT;
+    let mut scores = SHORT;
+    say_answer(label, follow::kernel_follow(kernel, values, 0, &mut scores));
+    say_kept(same_from(&scores, &before, 0));
+}
+
+// Whether a value at a place is refused as out of range, with that place and the buffer as before.
+fn is_named(kernel: u8, value: i16, place: usize) -> bool
+    requires { ⌜ place < 16 ⌝ }
+{
+    let before = BEFORE;
+    let mut scores = BEFORE;
+    let mut values = [0i16; 16];
+    values[place] = value;
+    let a = follow::kernel_follow(kernel, &values, 0, &mut scores);
+    if answer::number(a) != 6 {
+        return false;
+    }
+    if answer::place(a) != place {
+        return false;
+    }
+    same_from(&scores, &before, 0)
+}
+
+// At how many of the sixteen places it is.
+fn named(kernel: u8, value: i16) -> u64 {
+    let mut n: u64 = 0;
+    let mut i: usize = 0;
+    while i < 16 {
+        if is_named(kernel, value, i) {
+            n += 1;
+        }
+        i += 1;
+    }
+    n
+}
+
+fn outside(kernel: u8, value: i16) {
+    io::write_all(STDOUT_FILENO, b"value");
+    say_score(value);
+    io::write_all(STDOUT_FILENO, b": 6 with its place and kept, at ");
+    io::print_decimal(STDOUT_FILENO, named(kernel, value));
+    io::write_all(STDOUT_FILENO, b" of 16 places\n");
+}
+
+// The last score for symbols 0.
+fn last_score(label: &[u8], kernel: u8, values: [i16; 16]) {
+    let mut scores = [0i16; 16];
+    say_answer(
+        label,
+        follow::kernel_follow(kernel, &values, 0, &mut scores),
+    );
+    io::write_all(STDOUT_FILENO, b", score 15:");
+    say_score(scores[15]);
+    io::write_all(STDOUT_FILENO, b"\n");
+}
+
+fn say_scores(scores: [i16; 20]) {
+    let mut i: usize = 0;
+    while i < 16 {
+        say_score(scores[i]);
+        i += 1;
+    }
+}
+
+// All values 1 and symbols 0, into a buffer of twenty: the scores, and whether what lies past them stays.
+fn profile(label: &[u8], kernel: u8) {
+    let values = [1i16; 16];
+    let before = BEFORE;
+    let mut scores = BEFORE;
+    say_answer(
+        label,
+        follow::kernel_follow(kernel, &values, 0, &mut scores),
+    );
+    io::write_all(STDOUT_FILENO, b", scores");
+    say_scores(scores);
+    say_kept(same_from(&scores, &before, 16));
+}
+
+// The score of one phase.
+fn trap(label: &[u8], kernel: u8, values: [i16; 16], symbols: u16, phase: usize)
+    requires { ⌜ phase < 16 ⌝ }
+{
+    let mut scores = [0i16; 16];
+    say_answer(
+        label,
+        follow::kernel_follow(kernel, &values, symbols, &mut scores),
+    );
+    io::write_all(STDOUT_FILENO, b", score ");
+    io::print_decimal(STDOUT_FILENO, phase as u64);
+    io::write_all(STDOUT_FILENO, b":");
+    say_score(scores[phase]);
+    io::write_all(STDOUT_FILENO, b"\n");
+}
+
+fn ends_of_range() {
+    last_score(b"kernel 0, all 2047", 0, [2047i16; 16]);
+    last_score(b"kernel 1, all 2047", 1, [2047i16; 16]);
+    last_score(b"kernel 2, all 2047", 2, [2047i16; 16]);
+    last_score(b"kernel 0, all -2047", 0, [-2047i16; 16]);
+    last_score(b"kernel 1, all -2047", 1, [-2047i16; 16]);
+    last_score(b"kernel 2, all -2047", 2, [-2047i16; 16]);
+}
+
+fn profiles() {
+    profile(b"kernel 0, all 1", 0);
+    profile(b"kernel 1, all 1", 1);
+    profile(b"kernel 2, all 1", 2);
+}
+
+fn refusals() {
+    let values = [1i16; 16];
+    refuse(b"kernel 3", 3, &values);
+    refuse(b"kernel 255", 255, &values);
+    let few = [1i16; 15];
+    refuse(b"15 values", 0, &few);
+    let many = [1i16; 17];
+    refuse(b"17 values", 0, &many);
+    refuse_short(b"room 15", 0, &values);
+    outside(0, 2048);
+    outside(1, -2048);
+    outside(2, -32768);
+    let high_then_low = HIGH_THEN_LOW;
+    refuse(b"2048 at 3, -2048 at 11", 0, &high_then_low);
+    let low_then_high = LOW_THEN_HIGH;
+    refuse(b"-2048 at 3, 2048 at 11", 0, &low_then_high);
+}
+
+// Two conditions at once: the first in checking order counts.
+fn two_conditions() {
+    let values = [1i16; 16];
+    let few = [1i16; 15];
+    refuse(b"1 and 2", 3, &few);
+    refuse_short(b"1 and 5", 3, &values);
+    refuse_short(b"2 and 5", 0, &few);
+    let few_with_high = FEW_WITH_HIGH;
+    refuse(b"2 and 6", 0, &few_with_high);
+    let with_high = HIGH_THEN_LOW;
+    refuse_short(b"5 and 6", 0, &with_high);
+}
+
+fn traps() {
+    trap(b"kernel 2, v9 follows v6", 2, V9_FIXED, 0, 7);
+    trap(
+        b"kernel 2, v9 follows v6, u6 set",
+        2,
+        V9_FIXED_U6,
+        0x0200,
+        7,
+    );
+    trap(b"kernel 1, row of the symbol", 1, OTHER_ROW_1_7, 0, 7);
+    trap(b"kernel 1, row of the symbol", 1, OTHER_ROW_1_10, 0, 10);
+    trap(b"kernel 2, row of the symbol", 2, V9_FIXED, 0, 8);
+    trap(b"kernel 2, row of the symbol", 2, OTHER_ROW_2_9, 0, 9);
+    trap(b"kernel 0, all 0", 0, [0i16; 16], 0, 15);
+    trap(b"kernel 1, all 0", 1, [0i16; 16], 0, 9);
+    trap(b"kernel 2, all 0", 2, [0i16; 16], 0, 8);
+    trap(b"kernel 2, 5 at 7", 2, ZERO_PAYS, 0, 15);
+}
+
+fn main() {
+    ends_of_range();
+    profiles();
+    refusals();
+    two_conditions();
+    traps();
+}
