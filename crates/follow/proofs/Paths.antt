@@ -1,12 +1,12 @@
 -- What the tables make of symbols and window bits: the words of a path, or its number before the phase. Assumes nothing.
 use mathlib.Core.Path.{_≡_, refl, sym, ap, ap₂, _∙_}
-use mathlib.Core.Bool.{Bool, true, false, not, _&&_, and-assoc, and-comm, and-true, and-false}
+use mathlib.Core.Bool.{Bool, false, _&&_, and-assoc, and-comm, and-true, and-false}
 use mathlib.Core.List.{List, [], _∷_, _++_, map}
-use Prim.Native.Nat.{ℕ, zero, suc, _+_, _-_, _*_, _/_, _%_, _^_, _≤_, _<_}
+use Prim.Native.Nat.{ℕ, zero, suc, _+_, _-_, _/_, _^_, _≤_, _<_}
 use native.Mathlib.Nat.{zero-mul, zero-add}
 use native.Mathlib.Omega.{arith}
 use borrow.Author.Tests.{eq-eqb, ne-eqb, le-leb, lt-leb}
-use lib.Dec.{eqb, leb, eqb·zero-suc, eqb·suc-zero, eqb·suc-suc}
+use lib.Dec.{eqb, eqb·zero-suc, eqb·suc-zero, eqb·suc-suc}
 use lib.ListN.{length, take, getD, replicate, length-append, length-replicate, length-map, List·getD-append}
 use lib.Seq.{append-snoc, getD-append-add, ext-getD, take-suc, length-take-le}
 use Rattle.base.specs.Bit.{_⊕_, odd, bit, parity}
@@ -14,8 +14,7 @@ use Rattle.base.proofs.Bool.{⊕-false, ⊕-and, parity-cong, parity-append, pa
 use Rattle.bits.specs.Packed.{bits, number}
 use Rattle.bits.proofs.Packed.{length-bits, bits-at, bits-split, number-lt, number-bits-fit}
 use Rattle.polar.specs.Code.{Costs, least}
-use Rattle.polar.specs.Kernel.{product}
-use Rattle.polar.specs.Relation.{Relation, symbols}
+use Rattle.polar.specs.Relation.{symbols}
 use Rattle.polar.specs.Window.{height, readAt, pathOf}
 use Rattle.polar.specs.Fold.{folded, blocks}
 use Rattle.polar.proofs.Matrix.{product-word}
@@ -24,14 +23,14 @@ use Rattle.polar.proofs.Window.{Windowed, path-length, path-again}
 use Rattle.polar.proofs.Fold.{arikanCode}
 use Rattle.polar.proofs.Folded.{Words, least-folded, folded-words}
 use Rattle.kernel.specs.Kernels.{relations}
-use Rattle.kernel.specs.Rows.{rowBit, sumBit, rowSum}
+use Rattle.kernel.specs.Rows.{rowBit, rowSum}
 use Rattle.kernel.proofs.Solved as kernels
 use Rattle.kernel.proofs.Rows.{row-sum-at, row-sum-lt}
 use Rattle.follow.specs.Windows.{window, solution}
-use Rattle.follow.specs.Tables.{shapeAt, pathRows}
+use Rattle.follow.specs.Tables.{pathRows}
 use Rattle.follow.specs.Paths.{Choice}
 use Rattle.follow.proofs.Windows.{windowed}
-use Rattle.follow.proofs.Tables.{heightAt, oldBit, Fresh, Again}
+use Rattle.follow.proofs.Tables.{heightAt, Fresh, Again}
 
 zeros-at : (n i : ℕ) → bit (replicate n false) i ≡ false
 zeros-at zero i = refl

@@ -3,7 +3,6 @@ use mathlib.Core.Path.{_≡_, refl, sym, ap, ap₂, _∙_, subst, subst⁻¹}
 use mathlib.Core.Bool.{Bool, true, false}
 use mathlib.Core.List.{List, [], _∷_, _++_}
 use Prim.Native.Nat.{ℕ, zero, suc, _+_, _-_, _*_, _^_, _≤_, _<_}
-use native.Mathlib.Nat.{pow-le-pow-right}
 use native.Mathlib.Numerals.{add-one}
 use native.Mathlib.Omega.{arith}
 use lib.IntN.{ℤ, pos, negℤ, natAbs, _-ℤ_}
@@ -12,13 +11,13 @@ use lib.Seq.{take-all}
 use Rattle.base.specs.Bit.{_⊕_, bit}
 use Rattle.bits.specs.Packed.{bits, number, digit}
 use Rattle.bits.proofs.Packed.{length-bits, bits-number}
-use Rattle.polar.specs.Code.{Code, Costs, lowest, least, bestScore, score}
+use Rattle.polar.specs.Code.{Code, Costs, least, bestScore, score}
 use Rattle.polar.specs.Kernel.{arikan, matrix}
 use Rattle.polar.specs.Window.{height, pathOf}
 use Rattle.polar.specs.Fold.{folded}
 use Rattle.polar.proofs.Least.{least-bound}
 use Rattle.polar.proofs.Window.{window-least}
-use Rattle.folds.specs.Rows.{cell, costsOf, Within, IsGreatest, leastTo}
+use Rattle.folds.specs.Rows.{cell, IsGreatest, leastTo}
 use Rattle.folds.proofs.Rows.{greatest-least, lowest-index}
 use Rattle.kernel.specs.Kernels.{relations, kernelCode}
 use Rattle.kernel.specs.Rows.{rowSum}
@@ -26,7 +25,7 @@ use Rattle.kernel.proofs.Solved as kernels
 use Rattle.kernel.proofs.Undoing.{word-of-v, some-v}
 use Rattle.follow.specs.Windows.{window, solution}
 use Rattle.follow.specs.Tables.{shapeAt, pathRows}
-use Rattle.follow.specs.Paths.{width, pathBest, Kept, Held, Choice, chosen, pathWordOf, pathLeast, Leads}
+use Rattle.follow.specs.Paths.{Kept, Held, Choice, chosen, Leads}
 use Rattle.follow.proofs.Windows.{windowed}
 use Rattle.follow.proofs.Tables.{heightAt, shaped, fresh, again}
 use Rattle.follow.proofs.Paths.{fresh-least, old-number, again-path}

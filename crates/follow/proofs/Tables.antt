@@ -1,13 +1,12 @@
 -- The tables of the phases do what they say, by one computed test over all phases of each kernel. Assumes nothing.
 use mathlib.Core.Path.{_≡_, refl}
-use mathlib.Core.Bool.{Bool, true, false, not, _&&_, and-eq-true-iff}
-use mathlib.Core.List.{List, []}
+use mathlib.Core.Bool.{Bool, true, false, _&&_, and-eq-true-iff}
 use Prim.Native.Nat.{ℕ, zero, suc, _-_, _<_, _≤_}
 use native.Mathlib.Omega.{arith}
 use borrow.Author.Tests.{eqb-true, leb-true, eq-eqb, ne-eqb}
 use lib.Dec.{leb, eqb}
 use lib.ListN.{length, take, getD}
-use Rattle.base.specs.Bit.{_⊕_, tabulate, parity, every}
+use Rattle.base.specs.Bit.{tabulate, parity, every}
 use Rattle.base.proofs.Bool.{every-at, sameTable, same-table}
 use Rattle.bits.specs.Packed.{bits}
 use Rattle.polar.specs.Kernel.{arikan, product}

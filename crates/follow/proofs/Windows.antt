@@ -1,15 +1,13 @@
 -- The constant windows fix their phases and are smallest, by one computed test for each kernel. Assumes nothing.
 use mathlib.Core.Path.{_≡_, refl}
 use mathlib.Core.Bool.{true}
-use mathlib.Core.List.{List}
-use Prim.Native.Nat.{ℕ, zero, suc, _≤_, _<_}
+use Prim.Native.Nat.{ℕ, zero, suc, _≤_}
 use native.Mathlib.Omega.{arith}
 use borrow.Author.Tests.{leb-true}
 use lib.Dec.{leb}
 use lib.ListN.{length, take}
 use Rattle.base.specs.Bit.{tabulate, parity, every}
 use Rattle.base.proofs.Bool.{every-at, sameTable}
-use Rattle.polar.specs.Relation.{Relation}
 use Rattle.polar.specs.Window.{reach, height, IsWindow}
 use Rattle.polar.proofs.Matrix.{inverseTest}
 use Rattle.polar.proofs.Relation.{names, uses, within, allWithin, solvesTest}

@@ -5,14 +5,14 @@ use mathlib.Core.List.{List, [], _∷_, _++_}
 use Prim.Native.Nat.{ℕ, _+_, _-_, _*_, _/_, _%_, _^_, _<_}
 use lib.Dec.{leb}
 use lib.ListN.{length, take, getD, replicate}
-use lib.IntN.{ℤ, pos, negℤ, _-ℤ_}
+use lib.IntN.{ℤ, pos, _-ℤ_}
 use Rattle.base.specs.Bit.{_⊕_, bit}
 use Rattle.bits.specs.Packed.{bits, number, digit}
 use Rattle.polar.specs.Code.{Costs, bestScore}
 use Rattle.polar.specs.Kernel.{arikan, matrix}
 use Rattle.polar.specs.Window.{pathOf}
 use Rattle.polar.specs.Fold.{level, folded}
-use Rattle.folds.specs.Rows.{cell, costsOf, IsGreatest}
+use Rattle.folds.specs.Rows.{costsOf, IsGreatest}
 use Rattle.kernel.specs.Rows.{rowSum}
 use Rattle.follow.specs.Windows.{window, solution}
 

@@ -1,10 +1,10 @@
 -- The constant tables hold the kernels' rows and those of their inverses, each by one computed test over the whole table. Assumes nothing.
 use mathlib.Core.Path.{_≡_, refl, sym, ap, _∙_}
-use mathlib.Core.Bool.{Bool, true, not, _&&_}
+use mathlib.Core.Bool.{Bool, true, _&&_}
 use mathlib.Core.List.{List, []}
 use Prim.Native.Nat.{ℕ, _<_}
 use lib.ListN.{getD}
-use Rattle.base.specs.Bit.{_⊕_, bit, parity, tabulate, every}
+use Rattle.base.specs.Bit.{bit, parity, tabulate, every}
 use Rattle.base.proofs.Bool.{parity-cong, every-at, sameTable, same-table}
 use Rattle.base.proofs.List.{tabulate-cong, tabulate-bits}
 use Rattle.bits.specs.Packed.{bits, number}

@@ -3,7 +3,7 @@ use mathlib.Core.Path.{_≡_, refl, sym, ap, ap₂, _∙_}
 use mathlib.Core.Bool.{Bool, true, false, not, _&&_, _||_, and-assoc, and-true, and-false}
 use mathlib.Core.List.{List, [], _∷_, _++_}
 use Prim.Native.Nat.{ℕ, zero, suc, _+_, _-_, _*_, _/_, _%_, _^_, _≤_, _<_, min}
-use native.Mathlib.Nat.{mul-comm, pow-suc, pow-succ', zero-mul, one-mul, mul-one, zero-add, add-zero, mul-zero, mod-eq-of-lt, mul-add-mod-self-left, mul-add-div, div-eq-of-lt, div-one}
+use native.Mathlib.Nat.{pow-succ', zero-mul, one-mul, mul-one, zero-add, mul-zero, div-one}
 use native.Mathlib.Numerals.{add-one}
 use native.Mathlib.Decide.{decLt}
 use native.Mathlib.Omega.{arith}
@@ -12,10 +12,10 @@ use lib.ListN.{length, take, length-append, List·getD-append}
 use lib.Seq.{getD-append-add, take-all}
 use lib.Pow.{field, mod-mod-pow}
 use Rattle.base.specs.Bit.{_⊕_, odd, bit, parity, every}
-use Rattle.base.proofs.Bool.{⊕-assoc, ⊕-false, parity-cong, parity-blocks, parity-and}
+use Rattle.base.proofs.Bool.{⊕-false, parity-cong, parity-blocks, parity-and}
 use Rattle.polar.specs.Code.{Code, Costs, sum, total, lowest, least, Onto}
 use Rattle.polar.specs.Kernel.{arikan, matrix}
-use Rattle.polar.specs.Stages.{rows, column, staged, block, pairs}
+use Rattle.polar.specs.Stages.{rows, staged, block, pairs}
 use Rattle.polar.specs.Fold.{freeFold, knownFold}
 use Rattle.polar.proofs.Lowest.{lowest-cong, sum-cong, sum-blocks, sum-add, quot, rest}
 use Rattle.polar.proofs.Least.{least-cong}

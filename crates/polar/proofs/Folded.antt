@@ -1,17 +1,17 @@
 -- The least over words of Arikan's matrix that begin with some v, by folds. Assumes nothing.
 use mathlib.Core.Path.{_≡_, refl, sym, ap, ap₂, _∙_, fun-ext}
-use mathlib.Core.Bool.{Bool, true, false, not, _&&_, and-true, and-false}
-use mathlib.Core.List.{List, [], _∷_, _++_}
+use mathlib.Core.Bool.{Bool, true, false, not, _&&_, and-false}
+use mathlib.Core.List.{List, [], _∷_}
 use Prim.Native.Nat.{ℕ, zero, suc, _+_, _-_, _*_, _/_, _%_, _^_, _≤_, _<_, min}
 use native.Mathlib.Nat.{div-add-mod', add-zero, zero-add, pow-succ', mul-one, one-mul, zero-mul, div-eq-of-lt, mod-eq-of-lt}
 use native.Mathlib.Omega.{arith}
 use borrow.Author.Tests.{leb-true, leb-false, le-leb, lt-leb}
-use lib.Dec.{leb, eqb}
+use lib.Dec.{leb}
 use lib.ListN.{length, take, drop, length-drop, take-append-drop}
 use lib.Seq.{getD-take, getD-drop, length-take-le}
 use Rattle.base.specs.Bit.{_⊕_, bit, parity, every}
 use Rattle.base.proofs.Bool.{⊕-false, parity-cong, parity-append, parity-false}
-use Rattle.polar.specs.Code.{Code, Costs, sum, total, lowest, least}
+use Rattle.polar.specs.Code.{Costs, sum, total, lowest, least}
 use Rattle.polar.specs.Kernel.{arikan}
 use Rattle.polar.specs.Fold.{freeFold, knownFold, level, folded, blocks}
 use Rattle.polar.proofs.Lowest.{quot, rest}

@@ -1,17 +1,16 @@
 -- Frames of any number of layers: one layer theorem, one undoing and one sum for all of them. Assumes nothing.
 use mathlib.Core.Path.{_≡_, refl, sym, ap, ap₂, _∙_, fun-ext, subst⁻¹}
-use mathlib.Core.Bool.{Bool, true, false, _&&_}
+use mathlib.Core.Bool.{Bool, _&&_}
 use mathlib.Core.List.{List, [], _∷_, _++_, map}
-use Prim.Native.Nat.{ℕ, zero, suc, _+_, _-_, _*_, _/_, _%_, _^_, _<_}
-use native.Mathlib.Nat.{lt-div-mul-add, div-add-mod', pow-suc, pow-succ', pow-zero, one-mul, mul-comm}
-use native.Mathlib.Omega.{arith}
-use lib.ListN.{length, drop, length-drop}
-use lib.IntN.{ℤ, subℕ}
+use Prim.Native.Nat.{ℕ, zero, suc, _*_, _/_, _%_, _^_, _<_}
+use native.Mathlib.Nat.{pow-suc, pow-succ', pow-zero, one-mul, mul-comm}
+use lib.ListN.{length, drop}
+use lib.IntN.{ℤ}
 use Rattle.base.specs.Bit.{bit, parity}
-use Rattle.polar.specs.Code.{Code, Costs, pay, least, score, Onto, UndoneBy}
+use Rattle.polar.specs.Code.{Costs, least, score, Onto, UndoneBy}
 use Rattle.polar.specs.Kernel.{Kernel, code, Invertible}
 use Rattle.polar.specs.Frame.{extent, factor, layers}
-use Rattle.polar.specs.Stages.{rows, staged, pairs, soft}
+use Rattle.polar.specs.Stages.{rows, pairs, soft}
 use Rattle.polar.proofs.Layer.{parted, layer-next}
 use Rattle.polar.proofs.Values.{layer-scores-next}
 use Rattle.polar.proofs.Undo.{Coder, coder-onto, layered}

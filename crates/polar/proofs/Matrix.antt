@@ -1,9 +1,9 @@
 -- Laws of matrices of bits: products, inverses, and the codes that they make. Assumes nothing.
 use mathlib.Core.Path.{_≡_, refl, sym, ap, _∙_}
-use mathlib.Core.Bool.{Bool, true, false, not, _&&_, and-assoc}
+use mathlib.Core.Bool.{Bool, true, false, _&&_, and-assoc}
 use Prim.Native.Nat.{ℕ, _<_}
 use lib.Dec.{eqb}
-use Rattle.base.specs.Bit.{_⊕_, bit, parity, every}
+use Rattle.base.specs.Bit.{bit, parity}
 use Rattle.base.proofs.Bool.{parity-cong, parity-and, and-parity, parity-swap, parity-only, sameTable, same-table}
 use Rattle.base.proofs.List.{tabulate-at}
 use Rattle.polar.specs.Code.{Onto, UndoneBy}
