@@ -22,7 +22,7 @@ use Rattle.kernel.specs.Rows.{rowSum, table}
 use Rattle.kernel.specs.Jobs.{isKernel, encoded}
 use Rattle.kernel.proofs.Table.{encoded-rows}
 use Rattle.kernel.proofs.Checks.{kernel-lt, kernel-passed}
-use Rattle.follow.specs.Windows.{windows, solutions}
+use Rattle.windows.specs.Windows.{windows, solutions}
 use Rattle.follow.specs.Jobs.{followChecks}
 use Rattle.follow.proofs.Accepted.{accepted, accepted-job}
 use Rattle.profiles.proofs.Computed.{pathBy, leastBy, scoresBy, scores-by}

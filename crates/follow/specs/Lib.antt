@@ -1,4 +1,1 @@
-pub mod Windows
-pub mod Tables
-pub mod Paths
 pub mod Jobs

@@ -19,11 +19,11 @@ use Rattle.polar.proofs.Least.{score-least}
 use Rattle.polar.proofs.Folded.{least-folded}
 use Rattle.folds.specs.Rows.{leastTo}
 use Rattle.kernel.specs.Kernels.{kernelCode}
-use Rattle.follow.specs.Windows.{window, solution}
-use Rattle.follow.specs.Tables.{shapeAt}
-use Rattle.follow.proofs.Tables.{shaped}
-use Rattle.follow.proofs.Paths.{path-long}
-use Rattle.follow.proofs.Steps.{by-paths}
+use Rattle.windows.specs.Windows.{window, solution}
+use Rattle.windows.specs.Tables.{shapeAt}
+use Rattle.windows.proofs.Tables.{shaped}
+use Rattle.windows.proofs.Paths.{path-long}
+use Rattle.windows.proofs.Steps.{by-paths}
 
 -- The words of the known halves of the path q, and last its last bit: n are known before it.
 abbrev pub halves : ℕ → List Bool → List Bool

@@ -16,7 +16,7 @@ use Rattle.polar.specs.Profile.{weight, profile}
 use Rattle.folds.specs.Rows.{leastTo}
 use Rattle.kernel.specs.Kernels.{kernelCode}
 use Rattle.kernel.specs.Profiles.{profileTable}
-use Rattle.follow.specs.Windows.{windows, solutions}
+use Rattle.windows.specs.Windows.{windows, solutions}
 use Rattle.profiles.proofs.Computed.{pathBy, leastBy, least-by}
 
 unfoldable profileTest : ℕ → ℕ → Bool

@@ -11,8 +11,8 @@ use mir.Facts.{toZ-ofZ}
 use mir.Syntax.{w32}
 use mir.Val.{toZ, ofZ}
 use Rattle.folds.proofs.Fill.{Filled, filled-none, fill-both}
-use Rattle.follow.specs.Paths.{pathWordOf}
-use Rattle.follow.proofs.Words.{word-found, pow-le, paths-are}
+use Rattle.windows.specs.Paths.{pathWordOf}
+use Rattle.windows.proofs.Words.{word-found, pow-le, paths-are}
 use Rattle.follow.proofs.again_rows.Statement.{statement}
 use Rattle.follow.proofs.again_rows.Tie as tie
 

@@ -8,7 +8,7 @@ use borrow.Author.Needs.{needs}
 use Rattle.base.specs.Bit.{bit}
 use Rattle.bits.specs.Packed.{bits}
 use Rattle.folds.specs.Rows.{costsOf}
-use Rattle.follow.proofs.Levels.{turned}
+use Rattle.windows.proofs.Levels.{turned}
 use Rattle.follow.proofs.best_of.Statement.{statement}
 use Rattle.follow.proofs.best_of.Tie as tie
 

@@ -1,7 +1,7 @@
 -- `follow::choice` meets its contract: its three parts lie apart, so that their sum holds the bits of each. Assumes nothing.
 use native.Mathlib.Omega.{arith}
 use borrow.Author.Needs.{needs}
-use Rattle.follow.proofs.Shifts.{window-lt, shifts-lt, shifts-bits}
+use Rattle.windows.proofs.Shifts.{window-lt, shifts-lt, shifts-bits}
 use Rattle.follow.proofs.choice.Statement.{statement}
 use Rattle.follow.proofs.choice.Tie as tie
 

@@ -1,6 +1,6 @@
 -- `follow::difference` meets its contract: both greatest scores are small, so their difference fits. Assumes nothing.
 use borrow.Author.Needs.{needs}
-use Rattle.follow.proofs.Edges.{lead-fits, lead-is}
+use Rattle.windows.proofs.Edges.{less-fits, zero-small, one-small, lead-is}
 use Rattle.follow.proofs.difference.Statement.{statement}
 use Rattle.follow.proofs.difference.Tie as tie
 
@@ -16,11 +16,14 @@ index-1-greatest-2 c = search needs
 greatest-requires-2 : tie.Need-greatest-requires-2
 greatest-requires-2 c κs = search needs
 
+-- It fits whichever rows the two scores are greatest of, and in either order.
 sub-result : tie.Need-sub-result
 sub-result c =
     let g = c .before .before in
     let s = g .before .before in
-    lead-fits (s .args .rows .now) (s .args .n) (s .pre .1) (g .greatest .result) (c .greatest2 .result) (g .greatest .ensures) (c .greatest2 .ensures)
+    let rows = s .args .rows .now in
+    let n = s .args .n in
+    search (less-fits, zero-small rows n (s .pre .1), one-small rows n (s .pre .1), g .greatest .ensures, c .greatest2 .ensures)
 
 returns : tie.Need-returns
 returns c =

@@ -4,7 +4,7 @@ use Prim.Native.Nat.{_+_}
 use Rattle.base.specs.Bit.{bit}
 use Rattle.bits.specs.Packed.{bits}
 use Rattle.folds.specs.Rows.{costsOf}
-use Rattle.follow.proofs.Levels.{level-known, level-free}
+use Rattle.windows.proofs.Levels.{level-known, level-free}
 use borrow.Author.Needs.{needs}
 use Rattle.follow.proofs.fold_level.Statement.{statement}
 use Rattle.follow.proofs.fold_level.Tie as tie

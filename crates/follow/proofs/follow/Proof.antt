@@ -9,8 +9,8 @@ use Rattle.bits.specs.Packed.{bits}
 use Rattle.polar.specs.Code.{score}
 use Rattle.folds.specs.Rows.{costsOf}
 use Rattle.kernel.specs.Kernels.{kernelCode}
-use Rattle.follow.specs.Paths.{Kept}
-use Rattle.follow.proofs.Following.{written, byte-small, range, difference-asks, difference-is, score-written, score-narrow, kept-next, all-written}
+use Rattle.windows.specs.Paths.{Kept}
+use Rattle.windows.proofs.Following.{written, byte-small, range, difference-asks, difference-is, score-written, score-narrow, kept-next, all-written}
 use borrow.Author.Needs.{needs}
 use Rattle.follow.proofs.follow.Statement.{statement}
 use Rattle.follow.proofs.follow.Tie as tie

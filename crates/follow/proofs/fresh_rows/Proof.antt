@@ -13,9 +13,9 @@ use Rattle.bits.specs.Packed.{bits}
 use Rattle.kernel.proofs.Rows.{row-sum-lt}
 use Rattle.folds.specs.Rows.{costsOf, Within}
 use Rattle.folds.proofs.Fill.{Filled, filled-none, fill-both, filled-within}
-use Rattle.follow.specs.Paths.{pathWordOf, HalfOf, keyOf, lastLeast, pathLeast}
-use Rattle.follow.proofs.Words.{word-found, pow-le, paths-are}
-use Rattle.follow.proofs.Levels.{four-levels, half-same, key-lt}
+use Rattle.windows.specs.Paths.{pathWordOf, HalfOf, keyOf, lastLeast, pathLeast}
+use Rattle.windows.proofs.Words.{word-found, pow-le, paths-are}
+use Rattle.windows.proofs.Levels.{four-levels, half-same, key-lt}
 use borrow.Author.Needs.{needs}
 use Rattle.follow.proofs.fresh_rows.Statement.{statement}
 use Rattle.follow.proofs.fresh_rows.Tie as tie

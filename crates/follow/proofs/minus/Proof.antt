@@ -1,5 +1,5 @@
 -- `follow::minus` meets its contract. Assumes nothing.
-use Rattle.follow.proofs.Levels.{minus-fits, minus-back}
+use Rattle.windows.proofs.Levels.{minus-fits, minus-back}
 use borrow.Author.Needs.{needs}
 use Rattle.follow.proofs.minus.Statement.{statement}
 use Rattle.follow.proofs.minus.Tie as tie

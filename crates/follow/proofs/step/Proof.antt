@@ -1,5 +1,5 @@
 -- `follow::step` meets its contract. Assumes nothing.
-use Rattle.follow.proofs.Stepping.{in-range, fresh-step, small-step, again-step}
+use Rattle.windows.proofs.Stepping.{in-range, fresh-step, small-step, again-step}
 use borrow.Author.Needs.{needs}
 use Rattle.follow.proofs.step.Statement.{statement}
 use Rattle.follow.proofs.step.Tie as tie

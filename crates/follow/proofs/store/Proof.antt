@@ -4,7 +4,7 @@ use Prim.Native.Nat.{_-_, _≤_}
 use borrow.Author.Needs.{needs, sfits-of}
 use lib.ListN.{length}
 use mir.Facts.{toZ-ofZ}
-use Rattle.follow.proofs.Edges.{copied, copy-one, copy-all}
+use Rattle.windows.proofs.Edges.{copied, copy-one, copy-all}
 use Rattle.follow.proofs.store.Statement.{statement}
 use Rattle.follow.proofs.store.Tie as tie
 

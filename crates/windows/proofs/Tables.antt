@@ -15,8 +15,8 @@ use Rattle.polar.specs.Fold.{blocks}
 use Rattle.polar.proofs.Relation.{names, uses}
 use Rattle.kernel.specs.Kernels.{relations}
 use Rattle.kernel.specs.Rows.{rowBit}
-use Rattle.follow.specs.Windows.{windows, window, solutions, solution}
-use Rattle.follow.specs.Tables.{shapeAt, pathRows}
+use Rattle.windows.specs.Windows.{windows, window, solutions, solution}
+use Rattle.windows.specs.Tables.{shapeAt, pathRows}
 
 -- How far the relations of the first i symbols reach.
 abbrev pub heightAt : ℕ → ℕ → ℕ

@@ -22,11 +22,11 @@ use Rattle.polar.proofs.Values.{score-bound}
 use Rattle.polar.proofs.Follow.{scores-at, length-scores}
 use Rattle.folds.specs.Rows.{cell, costsOf, Within}
 use Rattle.kernel.specs.Kernels.{kernelCode}
-use Rattle.follow.specs.Tables.{shapeTable, shapeAt}
-use Rattle.follow.specs.Paths.{Kept, Held, Leads}
-use Rattle.follow.proofs.Words.{pow-le, paths-are}
-use Rattle.follow.proofs.Steps.{held-score, held-bound}
-use Rattle.follow.proofs.Stepping.{in-range}
+use Rattle.windows.specs.Tables.{shapeTable, shapeAt}
+use Rattle.windows.specs.Paths.{Kept, Held, Leads}
+use Rattle.windows.proofs.Words.{pow-le, paths-are}
+use Rattle.windows.proofs.Steps.{held-score, held-bound}
+use Rattle.windows.proofs.Stepping.{in-range}
 
 small-fits : (z : ℤ) → ((b : Bool) → pay z b ≤ 32752) → SFits w16 z
 small-fits (pos y) h = record { sfits = omega (arith, h true) }

@@ -15,7 +15,7 @@ use mir.Facts.{toZ-ofZ}
 use mir.Syntax.{w32}
 use mir.Val.{SFits, toZ, ofZ}
 use Rattle.folds.specs.Rows.{cell, IsGreatest}
-use Rattle.follow.specs.Paths.{Leads}
+use Rattle.windows.specs.Paths.{Leads}
 
 -- ---- the difference of two scores
 
@@ -45,27 +45,30 @@ small-mag (negsuc n) m h = omega arith
 small-coded : (z : ℤ) → natAbs z ≤ 16777216 → coded z ≡ z
 small-coded z h = toZ-ofZ (record { sfits = omega (arith, small-mag z 16777216 h) })
 
+less-is : (x y : ℤ) → natAbs x ≤ 16777216 → natAbs y ≤ 16777216 → coded x -ℤ coded y ≡ x -ℤ y
+less-is x y p q = ap₂ (λ a b. a -ℤ b) (small-coded x p) (small-coded y q)
+
 greatest-small : (m : ℕ) (row : List ℤ) (n : ℕ) (r : ℤ) → ((w : ℕ) → w < n → natAbs (getD row w (pos 0)) ≤ m) → IsGreatest row n r → natAbs r ≤ m
 greatest-small m row n r h g = rw (g .had) at (h (g .place) (g .inside))
 
-module _ (rows : List (List ℤ)) (n : ℕ) (h : (w : ℕ) (b : Bool) → w < n → natAbs (cell (pos 0) rows w b) ≤ 16777216)
-    (x y : ℤ) (gx : IsGreatest (getD rows 0 []) n x) (gy : IsGreatest (getD rows 1 []) n y) where
-  x-small : natAbs x ≤ 16777216
-  x-small = greatest-small 16777216 (getD rows 0 []) n x (λ w. h w false) gx
+-- The difference of two small scores fits thirty-two bits, whichever they are.
+pub less-fits : (x y : ℤ) → natAbs x ≤ 16777216 → natAbs y ≤ 16777216 → SFits w32 (coded x -ℤ coded y)
+less-fits x y p q = rw (less-is x y p q) (record { sfits = omega (arith, less-mag 16777216 x y p q) })
 
-  y-small : natAbs y ≤ 16777216
-  y-small = greatest-small 16777216 (getD rows 1 []) n y (λ w. h w true) gy
+module _ (rows : List (List ℤ)) (n : ℕ) (h : (w : ℕ) (b : Bool) → w < n → natAbs (cell (pos 0) rows w b) ≤ 16777216) where
+  -- The greatest score of either of two bounded rows is small,
+  pub zero-small : (x : ℤ) → IsGreatest (getD rows 0 []) n x → natAbs x ≤ 16777216
+  zero-small x g = greatest-small 16777216 (getD rows 0 []) n x (λ w. h w false) g
 
-  less-is : coded x -ℤ coded y ≡ x -ℤ y
-  less-is = ap₂ (λ a b. a -ℤ b) (small-coded x x-small) (small-coded y y-small)
+  pub one-small : (y : ℤ) → IsGreatest (getD rows 1 []) n y → natAbs y ≤ 16777216
+  one-small y g = greatest-small 16777216 (getD rows 1 []) n y (λ w. h w true) g
 
-  -- The difference of the greatest scores of two bounded rows fits thirty-two bits,
-  pub lead-fits : SFits w32 (coded x -ℤ coded y)
-  lead-fits = rw less-is (record { sfits = omega (arith, less-mag 16777216 x y x-small y-small) })
-
-  -- and is the lead of row 0 over row 1.
-  pub lead-is : Leads rows n (coded (coded x -ℤ coded y))
-  lead-is = record { zero = x; one = y; zero-greatest = gx; one-greatest = gy; less = toZ-ofZ lead-fits ∙ less-is }
+  -- and that of row 0 less that of row 1 is the lead.
+  pub lead-is : (x y : ℤ) → IsGreatest (getD rows 0 []) n x → IsGreatest (getD rows 1 []) n y → Leads rows n (coded (coded x -ℤ coded y))
+  lead-is x y gx gy =
+      let p = zero-small x gx in
+      let q = one-small y gy in
+      record { zero = x; one = y; zero-greatest = gx; one-greatest = gy; less = toZ-ofZ (less-fits x y p q) ∙ less-is x y p q }
 
 -- ---- a copy to the front of a buffer
 

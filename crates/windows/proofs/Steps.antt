@@ -23,12 +23,12 @@ use Rattle.kernel.specs.Kernels.{relations, kernelCode}
 use Rattle.kernel.specs.Rows.{rowSum}
 use Rattle.kernel.proofs.Solved as kernels
 use Rattle.kernel.proofs.Undoing.{word-of-v, some-v}
-use Rattle.follow.specs.Windows.{window, solution}
-use Rattle.follow.specs.Tables.{shapeAt, pathRows}
-use Rattle.follow.specs.Paths.{Kept, Held, Choice, chosen, Leads}
-use Rattle.follow.proofs.Windows.{windowed}
-use Rattle.follow.proofs.Tables.{heightAt, shaped, fresh, again}
-use Rattle.follow.proofs.Paths.{fresh-least, old-number, again-path}
+use Rattle.windows.specs.Windows.{window, solution}
+use Rattle.windows.specs.Tables.{shapeAt, pathRows}
+use Rattle.windows.specs.Paths.{Kept, Held, Choice, chosen, Leads}
+use Rattle.windows.proofs.Windows.{windowed}
+use Rattle.windows.proofs.Tables.{heightAt, shaped, fresh, again}
+use Rattle.windows.proofs.Paths.{fresh-least, old-number, again-path}
 
 -- Words by v alone.
 abbrev vCode : Code

@@ -26,11 +26,11 @@ use Rattle.kernel.specs.Kernels.{relations}
 use Rattle.kernel.specs.Rows.{rowBit, rowSum}
 use Rattle.kernel.proofs.Solved as kernels
 use Rattle.kernel.proofs.Rows.{row-sum-at, row-sum-lt}
-use Rattle.follow.specs.Windows.{window, solution}
-use Rattle.follow.specs.Tables.{pathRows}
-use Rattle.follow.specs.Paths.{Choice}
-use Rattle.follow.proofs.Windows.{windowed}
-use Rattle.follow.proofs.Tables.{heightAt, Fresh, Again}
+use Rattle.windows.specs.Windows.{window, solution}
+use Rattle.windows.specs.Tables.{pathRows}
+use Rattle.windows.specs.Paths.{Choice}
+use Rattle.windows.proofs.Windows.{windowed}
+use Rattle.windows.proofs.Tables.{heightAt, Fresh, Again}
 
 zeros-at : (n i : ℕ) → bit (replicate n false) i ≡ false
 zeros-at zero i = refl

@@ -11,7 +11,7 @@ use lib.Seq.{take-at}
 use mir.Val.{boolByte}
 use Rattle.bits.specs.Packed.{bits, digit, number}
 use Rattle.bits.proofs.Packed.{length-bits, bits-split, number-lt, number-append, number-zeros, number-bits-fit, bits-number}
-use Rattle.follow.specs.Paths.{Choice}
+use Rattle.windows.specs.Paths.{Choice}
 
 -- The first s of n bits, by a shift.
 take-bits : (n s x : ℕ) → s ≤ n → take s (bits n x) ≡ bits s (x / 2 ^ (n - s))

@@ -11,7 +11,7 @@ use lib.Pow.{pow-mono, shl-exact}
 use Rattle.bits.specs.Packed.{bits, number}
 use Rattle.bits.proofs.Packed.{number-bits-fit}
 use Rattle.kernel.specs.Rows.{rowSum}
-use Rattle.follow.specs.Paths.{Choice, chosen, pathWordOf}
+use Rattle.windows.specs.Paths.{Choice, chosen, pathWordOf}
 
 -- A number of sixteen bits that has the chosen bits is the chosen number.
 pub chosen-is : (us : List Bool) (b : Bool) (ws : List Bool) (x : ℕ) → x < 2 ^ 16 → Choice us b ws x → x ≡ chosen us b ws

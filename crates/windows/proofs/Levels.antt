@@ -20,7 +20,7 @@ use Rattle.polar.specs.Code.{Costs}
 use Rattle.polar.specs.Fold.{freeFold, knownFold, level, folded}
 use Rattle.polar.proofs.Folded.{folded-costs}
 use Rattle.folds.specs.Rows.{costsOf}
-use Rattle.follow.specs.Paths.{HalfOf, keyOf}
+use Rattle.windows.specs.Paths.{HalfOf, keyOf}
 
 -- A level whose first half is known,
 pub level-known : (h n : ℕ) (y : ℕ → Bool) (m : Costs) (j : ℕ) (b : Bool) → h ≤ n → level h n y m j b ≡ knownFold h y m j b

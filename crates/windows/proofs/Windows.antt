@@ -13,7 +13,7 @@ use Rattle.polar.proofs.Matrix.{inverseTest}
 use Rattle.polar.proofs.Relation.{names, uses, within, allWithin, solvesTest}
 use Rattle.polar.proofs.Window.{Windowed, windowTest, windowed-by, is-window}
 use Rattle.kernel.specs.Kernels.{relations}
-use Rattle.follow.specs.Windows.{windows, window, solutions, solution}
+use Rattle.windows.specs.Windows.{windows, window, solutions, solution}
 
 tested : (k : ℕ) → every 17 (λ i. windowTest (take i (relations k)) (window k i) (solution k i)) ≡ true
 unfolding windowTest solvesTest height reach allWithin within inverseTest sameTable every parity uses names relations windows solutions tabulate

@@ -13,13 +13,13 @@ use Rattle.bits.proofs.Packed.{length-bits}
 use Rattle.polar.specs.Window.{height}
 use Rattle.folds.specs.Rows.{cell, costsOf}
 use Rattle.kernel.specs.Kernels.{relations}
-use Rattle.follow.specs.Windows.{window}
-use Rattle.follow.specs.Tables.{shapeTable, shapeAt, pathRows}
-use Rattle.follow.specs.Paths.{Kept, Held, pathWordOf, pathLeast}
-use Rattle.follow.proofs.Windows.{widest, window-size}
-use Rattle.follow.proofs.Tables.{shaped, again}
-use Rattle.follow.proofs.Words.{pow-le}
-use Rattle.follow.proofs.Steps.{fresh-held, again-small, again-held}
+use Rattle.windows.specs.Windows.{window}
+use Rattle.windows.specs.Tables.{shapeTable, shapeAt, pathRows}
+use Rattle.windows.specs.Paths.{Kept, Held, pathWordOf, pathLeast}
+use Rattle.windows.proofs.Windows.{widest, window-size}
+use Rattle.windows.proofs.Tables.{shaped, again}
+use Rattle.windows.proofs.Words.{pow-le}
+use Rattle.windows.proofs.Steps.{fresh-held, again-small, again-held}
 
 widest-le : (k : ℕ) → widest k ≤ 4
 widest-le zero = omega arith

@@ -14,7 +14,7 @@ use Rattle.polar.specs.Window.{pathOf}
 use Rattle.polar.specs.Fold.{level, folded}
 use Rattle.folds.specs.Rows.{costsOf, IsGreatest}
 use Rattle.kernel.specs.Rows.{rowSum}
-use Rattle.follow.specs.Windows.{window, solution}
+use Rattle.windows.specs.Windows.{window, solution}
 
 -- How many members the window after the symbols us has.
 abbrev pub width : ℕ → List Bool → ℕ

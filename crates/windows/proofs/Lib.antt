@@ -1,0 +1,10 @@
+pub mod Windows
+pub mod Tables
+pub mod Paths
+pub mod Shifts
+pub mod Words
+pub mod Levels
+pub mod Edges
+pub mod Steps
+pub mod Stepping
+pub mod Following
