@@ -1,6 +1,6 @@
 -- Laws of bits and of sums modulo 2. Assumes nothing.
 use mathlib.Core.Path.{_≡_, refl, sym, ap, ap₂, _∙_}
-use mathlib.Core.Bool.{Bool, true, false, not, _&&_, and-true, and-false, and-eq-true-iff, false≢true}
+use mathlib.Core.Bool.{Bool, true, false, not, _&&_, _||_, and-true, and-false, and-eq-true-iff, false≢true}
 use Prim.Native.Nat.{ℕ, zero, suc, _+_, _*_, _<_}
 use native.Mathlib.Nat.{suc-add, zero-add, zero-mul, suc-mul, mul-zero, mul-suc, add-comm}
 use native.Mathlib.Omega.{arith}
@@ -49,6 +49,11 @@ pub ⊕-same : (a b : Bool) → not (a ⊕ b) ≡ true → a ≡ b
 pub ⊕-self : (a : Bool) → not (a ⊕ a) ≡ true
 ⊕-self true = refl
 ⊕-self false = refl
+
+-- Where neither of two tests holds, each fails.
+pub or-eq-false : (a b : Bool) → (a || b) ≡ false → (a ≡ false) × (b ≡ false)
+or-eq-false true b e = absurd (false≢true (sym e))
+or-eq-false false b e = (refl, e)
 
 pub parity-cong : (n : ℕ) {f g : ℕ → Bool} → ((i : ℕ) → i < n → f i ≡ g i) → parity n f ≡ parity n g
 unfolding parity

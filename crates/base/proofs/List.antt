@@ -1,11 +1,13 @@
 -- Laws of lists of bits and of the search for one. Assumes nothing.
 use mathlib.Core.Path.{_≡_, refl, sym, ap, ap₂, _∙_}
 use mathlib.Core.Bool.{Bool, true, false, not, and-eq-true-iff, false≢true}
-use mathlib.Core.List.{List, [], _∷_, _++_}
+use mathlib.Core.List.{List, [], _∷_, _++_, append-nil}
 use Prim.Native.Nat.{ℕ, zero, suc, _+_, _<_}
 use native.Mathlib.Nat.{suc-add, zero-add, suc-inj}
+use native.Mathlib.Numerals.{add-one}
 use native.Mathlib.Omega.{arith}
-use lib.ListN.{length, getD}
+use lib.ListN.{length, getD, drop, set}
+use lib.Seq.{ext-getD, drop-cons, drop-length, set-at, append-snoc}
 use Rattle.base.specs.Bit.{_⊕_, bit, tabulate, same, find}
 use Rattle.base.proofs.Bool.{⊕-same, ⊕-self}
 
@@ -37,11 +39,33 @@ tabulate-next zero f g h = refl
 tabulate-next {X = X} (suc n) f g h =
     ap₂ (λ x (l : List X). x ∷ l) (h zero (omega arith)) (tabulate-next n (λ i. f (suc i)) (λ i. g (suc i)) (λ i l. h (suc i) (omega arith)))
 
+-- A list whose first n entries are those of f.
+abbrev pub filled {ℓ} : {X : Type ℓ} → (ℕ → X) → ℕ → List X → List X
+filled f n old = tabulate n f ++ drop n old
+
+-- One more of them is stored.
+pub fill-next {ℓ} : {X : Type ℓ} (f : ℕ → X) (n : ℕ) (old : List X) (z : X) → n < length old → z ≡ f n → set (filled f n old) n z ≡ filled f (n + 1) old
+fill-next {X = X} f n old z l e =
+    ap (λ (r : List X). set (tabulate n f ++ r) n z) (drop-cons old n z l)
+    ∙ set-at (tabulate n f) (getD old n z) (drop (suc n) old) z n (length-tabulate n f)
+    ∙ ap (λ x. tabulate n f ++ (x ∷ drop (suc n) old)) e
+    ∙ sym (append-snoc (tabulate n f) (f n) (drop (suc n) old))
+    ∙ ap (λ (l : List X). l ++ drop (suc n) old) (sym (tabulate-next n f f (λ i _. refl)))
+    ∙ ap (λ m. filled f m old) (sym (add-one n))
+
+-- All of them are stored.
+pub fill-all {ℓ} : {X : Type ℓ} (f : ℕ → X) (n : ℕ) (old : List X) → length old ≡ n → filled f n old ≡ tabulate n f
+fill-all {X = X} f n old e = ap (λ (l : List X). tabulate n f ++ l) (ap (λ m. drop m old) (sym e) ∙ drop-length old) ∙ append-nil (tabulate n f)
+
 -- A list is what its elements make.
 pub tabulate-bits : (u : List Bool) → tabulate (length u) (bit u) ≡ u
 unfolding tabulate
 tabulate-bits [] = refl
 tabulate-bits (b ∷ u) = ap (λ (l : List Bool). b ∷ l) (tabulate-bits u)
+
+-- Lists of n bits are the same where their bits are.
+pub same-bits : (n : ℕ) (u v : List Bool) → length u ≡ n → length v ≡ n → ((i : ℕ) → i < n → bit u i ≡ bit v i) → u ≡ v
+same-bits n u v eu ev h = ext-getD false u v (eu ∙ sym ev) (λ i l. h i (rw (← eu) l))
 
 pub same-eq : (u v : List Bool) → same u v ≡ true → u ≡ v
 unfolding same

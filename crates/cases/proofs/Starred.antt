@@ -18,7 +18,7 @@ use Rattle.polar.specs.Relation.{unit, sumOf, symbols}
 use Rattle.polar.specs.Fold.{folded, blocks}
 use Rattle.folds.specs.Range.{firstOutside}
 use Rattle.folds.specs.Rows.{leastTo}
-use Rattle.kernel.specs.Rows.{rowSum, table}
+use Rattle.kernel.specs.Rows.{chosenSum, rowSum, table}
 use Rattle.kernel.specs.Jobs.{isKernel, encoded}
 use Rattle.kernel.proofs.Table.{encoded-rows}
 use Rattle.kernel.proofs.Checks.{kernel-lt, kernel-passed}
@@ -88,5 +88,5 @@ all-shown (c ∷ cs) t =
     (shown c (h .0), all-shown cs (h .1))
 
 pub starred-hold : AllHold starred
-unfolding tests test isKernel rowSum bits number tabulate parity sameScore sameScores followChecks firstOutside scoresBy leastBy pathBy leastTo windows solutions symbols sumOf folded blocks arikan every
+unfolding tests test isKernel chosenSum bits number tabulate parity sameScore sameScores followChecks firstOutside scoresBy leastBy pathBy leastTo windows solutions symbols sumOf folded blocks arikan every
 starred-hold = all-shown starred refl

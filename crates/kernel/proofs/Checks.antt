@@ -1,12 +1,12 @@
 -- The check of a kernel number. Assumes nothing.
 use mathlib.Core.Path.{_≡_, refl, sym, _∙_}
-use mathlib.Core.Bool.{true, false}
+use mathlib.Core.Bool.{true, false, and-eq-true-iff}
 use Prim.Native.Nat.{ℕ, zero, suc, _<_}
 use native.Mathlib.Omega.{arith}
 use borrow.Author.Tests.{ne-eqb, le-ltb, ltb-true}
 use lib.Dec.{ltb}
 use Rattle.answer.specs.Verdict.{Verdict, refused, settle}
-use Rattle.kernel.specs.Jobs.{isKernel, checks}
+use Rattle.kernel.specs.Jobs.{isKernel, isPair, checks}
 
 -- The kernel numbers are those below 3.
 pub kernel-below : (k : ℕ) → ltb k 3 ≡ isKernel k
@@ -28,3 +28,7 @@ kernel-passed k v e = rw e
 
 pub kernel-lt : (k : ℕ) → isKernel k ≡ true → k < 3
 kernel-lt k e = ltb-true k 3 (kernel-below k ∙ e)
+
+pub pair-lt : (a b : ℕ) → isPair a b ≡ true → (a < 3) × (b < 3)
+unfolding isPair
+pair-lt a b e = let h = (and-eq-true-iff (isKernel a) (isKernel b)) .0 e in (kernel-lt a (h .0), kernel-lt b (h .1))

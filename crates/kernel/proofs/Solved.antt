@@ -48,7 +48,7 @@ solution k = record {
 }
 
 -- The three kernels are instances of the theory.
-pub invertible : (k : ℕ) → Invertible (kernel k)
+unfoldable pub invertible : (k : ℕ) → Invertible (kernel k)
 invertible k = record {
   inverse = product 16 F (uses (relations k));
   right = row-inverse 16 F F (relations k) (solved k) (solution k);

@@ -11,11 +11,12 @@ use Rattle.bits.specs.Packed.{bits, number}
 use Rattle.bits.proofs.Packed.{length-bits}
 use Rattle.polar.specs.Kernel.{arikan, product}
 use Rattle.polar.specs.Relation.{row}
-use Rattle.polar.proofs.Relation.{names, uses, word-product, row-product, symbols-product, length-symbolsBy}
-use Rattle.kernel.specs.Kernels.{F, relations, symbolsOf}
-use Rattle.kernel.specs.Rows.{rowBit, rowSum, table, inverseTable}
+use Rattle.polar.proofs.Undo.{length-symbols-in}
+use Rattle.polar.proofs.Relation.{names, uses, word-product, row-product, symbols-product}
+use Rattle.kernel.specs.Kernels.{F, relations, kernelCode, symbolsOf}
+use Rattle.kernel.specs.Rows.{rowBit, chosenSum, rowSum, table, inverseTable}
 use Rattle.kernel.specs.Jobs.{encoded, undone}
-use Rattle.kernel.proofs.Solved.{solved, solution}
+use Rattle.kernel.proofs.Solved.{solved, solution, invertible}
 
 -- Whether each bit of a table is what g says, and what that shows.
 unfoldable tableTest : List (List ℕ) → (ℕ → ℕ → ℕ → Bool) → Bool
@@ -43,7 +44,7 @@ table-row k s j lk ls lj =
 
 -- A word is the sum of the table's rows,
 pub encoded-rows : (k u : ℕ) → k < 3 → rowSum (getD table k []) u ≡ encoded k u
-unfolding rowSum encoded
+unfolding chosenSum encoded
 encoded-rows k u lk =
     ap number (tabulate-cong 16 (λ j lj.
     parity-cong 16 (λ s ls. ap (λ b. bit (bits 16 u) s && b) (table-at table (λ k. product 16 (uses (solved k)) F) table-checked k s j lk ls lj))
@@ -51,10 +52,15 @@ encoded-rows k u lk =
 
 -- and its symbols are the sum of the inverse's.
 pub undone-rows : (k c : ℕ) → k < 3 → rowSum (getD inverseTable k []) c ≡ undone k c
-unfolding rowSum undone
+unfolding chosenSum undone
 undone-rows k c lk =
     ap number (tabulate-cong 16 (λ s ls.
     parity-cong 16 (λ j lj. ap (λ b. bit (bits 16 c) j && b) (table-at inverseTable (λ k. product 16 F (uses (relations k))) inverse-checked k j s lk lj ls))
     ∙ sym (symbols-product 16 F F (relations k) (solved k) (solution k) (bits 16 c) (length-bits 16 c) s ls))
-    ∙ ap (λ n. tabulate n (bit (symbolsOf k (bits 16 c)))) (sym (length-symbolsBy 16 F F (relations k) (solved k) (solution k) (bits 16 c)))
+    ∙ ap (λ n. tabulate n (bit (symbolsOf k (bits 16 c)))) (sym (length-symbols-in (kernelCode k) (bits 16 c)))
     ∙ tabulate-bits (symbolsOf k (bits 16 c)))
+
+-- Row s of the inverse table is that of the inverse kernel.
+pub inverse-row : (k s j : ℕ) → k < 3 → s < 16 → j < 16 → rowBit (getD inverseTable k []) s j ≡ (invertible k) .inverse s j
+unfolding invertible
+inverse-row k s j = table-at inverseTable (λ k. product 16 F (uses (relations k))) inverse-checked k s j

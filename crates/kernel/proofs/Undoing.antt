@@ -9,10 +9,12 @@ use Rattle.base.proofs.List.{length-tabulate}
 use Rattle.bits.specs.Packed.{bits, number}
 use Rattle.bits.proofs.Packed.{length-bits, bits-number, number-lt, number-bits-fit}
 use Rattle.answer.specs.Verdict.{word, wordOf}
+use Rattle.polar.specs.Code.{Code, UndoneBy}
 use Rattle.polar.specs.Kernel.{code}
 use Rattle.polar.specs.Relation.{symbols, tied}
-use Rattle.polar.proofs.Relation.{symbols-tied, length-tied, one-v, word-symbols, word-rows, symbols-of-word, word-of-symbols, length-symbolsBy}
-use Rattle.kernel.specs.Kernels.{F, relations, wordBit, symbolsOf, kernel}
+use Rattle.polar.proofs.Undo.{length-symbols-in, symbols-of-word, word-of-symbols}
+use Rattle.polar.proofs.Relation.{symbols-tied, length-tied, one-v, word-symbols, word-rows, unrelated, related-undo, related-redo}
+use Rattle.kernel.specs.Kernels.{F, relations, wordBit, kernelCode, symbolsOf, kernel}
 use Rattle.kernel.specs.Jobs.{isKernel, checks, encoded, undone, kernelEncode, kernelUndo}
 use Rattle.kernel.proofs.Solved.{solved, solution}
 
@@ -34,6 +36,17 @@ module _ (k : ℕ) where
   pub code-word : (u : List Bool) → length u ≡ 16 → (j : ℕ) → (code (kernel k)) .word u j ≡ wordBit k u j
   code-word u e j = sym (word-rows 16 F F (relations k) (solved k) (solution k) u e j)
 
+  -- The code that undoes the kernel's,
+  abbrev unkernel : Code
+  unkernel = unrelated 16 F F (relations k) (solved k) (solution k)
+
+  undoes : UndoneBy (kernelCode k) unkernel
+  undoes = related-undo 16 F F (relations k) (solved k) (solution k)
+
+  -- and that it undoes.
+  redoes : UndoneBy unkernel (kernelCode k)
+  redoes = related-redo 16 F F (relations k) (solved k) (solution k)
+
   fits : (l : List Bool) → length l ≡ 16 → bits 16 (number l) ≡ l
   fits l e = ap (λ n. bits n (number l)) (sym e) ∙ bits-number l
 
@@ -46,7 +59,7 @@ module _ (k : ℕ) where
   pub undone-fits : (c : ℕ) → undone k c < 2 ^ 16
   unfolding undone
   undone-fits c =
-      rw (length-symbolsBy 16 F F (relations k) (solved k) (solution k) (bits 16 c)) at (number-lt (symbolsOf k (bits 16 c)))
+      rw (length-symbols-in (kernelCode k) (bits 16 c)) at (number-lt (symbolsOf k (bits 16 c)))
 
   -- Undo of encode, over all symbols,
   pub undone-encoded : (u : ℕ) → u < 2 ^ 16 → undone k (encoded k u) ≡ u
@@ -54,7 +67,7 @@ module _ (k : ℕ) where
   undone-encoded u h =
       let l = tabulate 16 (wordBit k (bits 16 u)) in
       ap (λ c. number (symbolsOf k c)) (fits l (length-tabulate 16 _))
-      ∙ ap number (symbols-of-word 16 F F (relations k) (solved k) (solution k) (bits 16 u) (length-bits 16 u))
+      ∙ ap number (symbols-of-word (kernelCode k) unkernel undoes redoes (bits 16 u) (length-bits 16 u))
       ∙ number-bits-fit 16 u h
 
   -- and encode of undo, over all words.
@@ -62,8 +75,8 @@ module _ (k : ℕ) where
   unfolding encoded undone
   encoded-undone c h =
       let u = symbolsOf k (bits 16 c) in
-      ap (λ l. number (tabulate 16 (wordBit k l))) (fits u (length-symbolsBy 16 F F (relations k) (solved k) (solution k) (bits 16 c)))
-      ∙ ap number (word-of-symbols 16 F F (relations k) (solved k) (solution k) (bits 16 c) (length-bits 16 c))
+      ap (λ l. number (tabulate 16 (wordBit k l))) (fits u (length-symbols-in (kernelCode k) (bits 16 c)))
+      ∙ ap number (word-of-symbols (kernelCode k) unkernel undoes redoes (bits 16 c) (length-bits 16 c))
       ∙ number-bits-fit 16 c h
 
   -- The same of the two jobs.

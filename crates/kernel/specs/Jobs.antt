@@ -1,5 +1,5 @@
 -- What kernel encode and kernel undo answer, from their inputs alone. Assumes nothing.
-use mathlib.Core.Bool.{Bool, not, _||_}
+use mathlib.Core.Bool.{Bool, not, _&&_, _||_}
 use mathlib.Core.List.{List, [], _∷_}
 use Prim.Native.Nat.{ℕ}
 use lib.Dec.{eqb}
@@ -11,6 +11,10 @@ use Rattle.kernel.specs.Kernels.{wordBit, symbolsOf}
 -- Whether a kernel number is 0, 1 or 2.
 unfoldable pub isKernel : ℕ → Bool
 isKernel k = eqb k 0 || eqb k 1 || eqb k 2
+
+-- Whether both numbers of a pair (A, B) are.
+unfoldable pub isPair : ℕ → ℕ → Bool
+isPair a b = isKernel a && isKernel b
 
 -- The checks of both jobs. Condition 1: a kernel number is not 0, 1 or 2.
 unfoldable pub checks : ℕ → List Check

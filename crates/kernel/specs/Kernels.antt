@@ -2,9 +2,9 @@
 use mathlib.Core.Bool.{Bool}
 use mathlib.Core.List.{List, [], _∷_}
 use Prim.Native.Nat.{ℕ, zero, suc}
-use Rattle.polar.specs.Code.{Code}
+use Rattle.polar.specs.Code.{Code, symbolsIn}
 use Rattle.polar.specs.Kernel.{arikan, Kernel}
-use Rattle.polar.specs.Relation.{Relation, wordBy, symbolsBy, row}
+use Rattle.polar.specs.Relation.{Relation, wordBy, row}
 
 -- F[i][j] = 1 exactly if every set bit of j is set in i, for i and j of four bits.
 abbrev pub F : ℕ → ℕ → Bool
@@ -33,7 +33,7 @@ kernelCode k = record { size = 16; places = 16; word = wordBit k }
 
 -- The symbols of a word: those whose word it is.
 abbrev pub symbolsOf : ℕ → List Bool → List Bool
-symbolsOf k c = symbolsBy F (relations k) c
+symbolsOf k c = symbolsIn (kernelCode k) c
 
 -- The kernel as a matrix: row s is the word with only symbol s set.
 abbrev pub kernel : ℕ → Kernel

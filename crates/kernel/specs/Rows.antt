@@ -10,13 +10,17 @@ use Rattle.bits.specs.Packed.{bits, number}
 abbrev pub rowBit : List ℕ → ℕ → ℕ → Bool
 rowBit rows s j = bit (bits 16 (getD rows s 0)) j
 
--- Bit j of the sum of the first n of the rows that x chooses.
-abbrev pub sumBit : List ℕ → ℕ → ℕ → ℕ → Bool
-sumBit rows x n j = parity n (λ s. bit (bits 16 x) s && rowBit rows s j)
+-- Bit j of the sum of the first n of the rows that f chooses.
+abbrev pub chosenBit : List ℕ → (ℕ → Bool) → ℕ → ℕ → Bool
+chosenBit rows f n j = parity n (λ s. f s && rowBit rows s j)
 
--- The sum of the rows that x chooses.
-unfoldable pub rowSum : List ℕ → ℕ → ℕ
-rowSum rows x = number (tabulate 16 (sumBit rows x 16))
+-- The sum of the rows that f chooses.
+unfoldable pub chosenSum : List ℕ → (ℕ → Bool) → ℕ
+chosenSum rows f = number (tabulate 16 (chosenBit rows f 16))
+
+-- The sum of the rows that the bits of x choose.
+abbrev pub rowSum : List ℕ → ℕ → ℕ
+rowSum rows x = chosenSum rows (bit (bits 16 x))
 
 -- The rows of kernels 0, 1 and 2, as the code's table has them.
 abbrev pub table : List (List ℕ)

@@ -1,8 +1,11 @@
 // The three kernels: encode and undo, by sums of whole rows of constant tables.
 ghost use mathlib.Core.Path.{_≡_};
+ghost use mathlib.Core.List.{[]};
+ghost use Prim.Native.Nat.{_<_};
+ghost use lib.ListN.{getD};
 ghost use Rattle.answer.specs.Verdict.{verdict};
-ghost use Rattle.kernel.specs.Rows.{rowSum};
-ghost use Rattle.kernel.specs.Jobs.{isKernel, kernelEncode, kernelUndo};
+ghost use Rattle.kernel.specs.Rows.{rowSum, table, inverseTable};
+ghost use Rattle.kernel.specs.Jobs.{isKernel, isPair, kernelEncode, kernelUndo};
 use answer::Answer;
 
 // Row s of kernel k: the word with only symbol s set.
@@ -121,6 +124,22 @@ const INVERSE_ROWS: [[u16; 16]; 3] = [
     ],
 ];
 
+// The rows of a kernel.
+pub fn kernel_rows(kernel: u8) -> [u16; 16]
+    requires { ⌜ kernel < 3 ⌝ }
+    ensures { λ r. ⌜ r ≡ getD table kernel [] ⌝ }
+{
+    ROWS[kernel as usize]
+}
+
+// The rows of its inverse.
+pub fn inverse_rows(kernel: u8) -> [u16; 16]
+    requires { ⌜ kernel < 3 ⌝ }
+    ensures { λ r. ⌜ r ≡ getD inverseTable kernel [] ⌝ }
+{
+    INVERSE_ROWS[kernel as usize]
+}
+
 // The sum of the rows that the bits of x choose.
 pub fn row_sum(rows: [u16; 16], x: u16) -> u16
     ensures { λ r. ⌜ r ≡ rowSum rows x ⌝ }
@@ -143,6 +162,13 @@ pub fn is_kernel(kernel: u8) -> bool
     kernel < 3
 }
 
+// Whether there are kernels of both numbers.
+pub fn is_pair(inner: u8, outer: u8) -> bool
+    ensures { λ r. ⌜ r ≡ isPair inner outer ⌝ }
+{
+    is_kernel(inner) && is_kernel(outer)
+}
+
 // Kernel encode: the word of sixteen symbols.
 pub fn kernel_encode(kernel: u8, symbols: u16) -> Answer
     ensures { λ r. ⌜ verdict r ≡ kernelEncode kernel symbols ⌝ }
@@ -150,8 +176,7 @@ pub fn kernel_encode(kernel: u8, symbols: u16) -> Answer
     if !is_kernel(kernel) {
         return Answer::NoKernel;
     }
-    let rows = ROWS[kernel as usize];
-    Answer::Word(row_sum(rows, symbols))
+    Answer::Word(row_sum(kernel_rows(kernel), symbols))
 }
 
 // Kernel undo: the symbols of a word of sixteen bits.
@@ -161,6 +186,5 @@ pub fn kernel_undo(kernel: u8, word: u16) -> Answer
     if !is_kernel(kernel) {
         return Answer::NoKernel;
     }
-    let rows = INVERSE_ROWS[kernel as usize];
-    Answer::Word(row_sum(rows, word))
+    Answer::Word(row_sum(inverse_rows(kernel), word))
 }

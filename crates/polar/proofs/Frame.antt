@@ -3,7 +3,7 @@ use mathlib.Core.Path.{_≡_, refl, sym, ap, ap₂, _∙_, fun-ext}
 use mathlib.Core.Bool.{Bool, false, _&&_, and-assoc}
 use mathlib.Core.List.{List, _++_}
 use Prim.Native.Nat.{ℕ, zero, suc, _+_, _*_, _/_, _%_, _≤_, _<_}
-use native.Mathlib.Nat.{mul-comm}
+use native.Mathlib.Nat.{mul-comm, mod-lt, div-lt-iff-lt-mul}
 use lib.ListN.{length, take, drop}
 use lib.Seq.{getD-take, getD-drop}
 use Rattle.base.specs.Bit.{bit, parity}
@@ -13,7 +13,7 @@ use Rattle.polar.specs.Kernel.{matrix, Kernel, code, Invertible, inverte
 use Rattle.polar.specs.Frame.{frame, layers}
 use Rattle.polar.specs.Stages.{rows, staged, pairs, soft}
 use Rattle.polar.proofs.Lowest.{quot, rest}
-use Rattle.polar.proofs.Layer.{layer}
+use Rattle.polar.proofs.Layer.{layer, pos-right}
 use Rattle.polar.proofs.Values.{layer-scores}
 use Rattle.polar.proofs.Undo.{column-at, staged-undo, undo-onto}
 use Rattle.polar.proofs.Matrix.{inverted-too, coder, kernel-onto}
@@ -75,11 +75,24 @@ frame-undo A B a b =
     rw (frame-staged A B, frame-staged (inverted B b) (inverted A a))
     (staged-undo (code A) (code B) (code (inverted A a)) (code (inverted B b)) ((coder A a) .undo) ((coder B b) .undo))
 
+-- It is undone by that frame too.
+pub frame-redo : (A B : Kernel) (a : Invertible A) (b : Invertible B) → UndoneBy (frame (inverted B b) (inverted A a)) (frame A B)
+frame-redo A B a b = frame-undo (inverted B b) (inverted A a) (inverted-too B b) (inverted-too A a)
+
+-- Kernels with the same entries make the same words.
+pub frame-cong : (n w : ℕ) (A A′ B B′ : ℕ → ℕ → Bool)
+    → ((s j : ℕ) → s < n → j < n → A s j ≡ A′ s j) → ((r t : ℕ) → r < w → t < w → B r t ≡ B′ r t) → (u : List Bool) (p : ℕ) → p < n * w
+    → (frame (record { dim = n; entry = A }) (record { dim = w; entry = B })) .word u p
+    ≡ (frame (record { dim = n; entry = A′ }) (record { dim = w; entry = B′ })) .word u p
+frame-cong n w A A′ B B′ f g u p l =
+    let pos : 0 < w = pos-right p n w l in
+    parity-cong w (λ r lr. parity-cong n (λ s ls.
+    ap₂ (λ a b. bit u (n * r + s) && a && b) (f s (p / w) ls ((div-lt-iff-lt-mul pos) .1 l)) (g r (p % w) lr (mod-lt p pos))))
+
 -- Every word of a frame's size is one of its words.
 pub frame-onto : (A B : Kernel) → Invertible A → Invertible B → Onto (frame A B)
 frame-onto A B a b =
-    undo-onto (frame A B) (frame (inverted B b) (inverted A a))
-    (frame-undo (inverted B b) (inverted A a) (inverted-too B b) (inverted-too A a))
+    undo-onto (frame A B) (frame (inverted B b) (inverted A a)) (frame-redo A B a b)
 
 module _ (A B : Kernel) (a : Invertible A) (m : Costs) (r : ℕ) (u p : List Bool) (e : length u ≡ r * A .dim) (lr : r < B .dim) where
   -- The layer theorem of a frame, in least totals,

@@ -6,12 +6,13 @@ use Prim.Native.Nat.{ℕ, zero, suc, _<_}
 use borrow.Author.Tests.{ltb-true, eqb-true}
 use lib.Dec.{eqb, ltb}
 use lib.ListN.{length, getD, length-map, List·getD-map}
-use lib.Seq.{ext-getD}
 use Rattle.base.specs.Bit.{_⊕_, bit, parity, tabulate, same}
 use Rattle.base.proofs.Bool.{and-⊕, parity-cong, parity-false, parity-⊕, parity-only}
-use Rattle.base.proofs.List.{length-tabulate, tabulate-at, same-eq, same-self, length-find, find-holds, find-only}
-use Rattle.polar.specs.Kernel.{product, Inverse}
-use Rattle.polar.specs.Relation.{Relation, sumOf, symbols, tied, wordBy, symbolsBy, unit, row}
+use Rattle.base.proofs.List.{length-tabulate, tabulate-at, same-bits, same-eq, same-self, length-find, find-holds}
+use Rattle.polar.specs.Code.{Code, UndoneBy, symbolsIn}
+use Rattle.polar.specs.Kernel.{matrix, product, Inverse}
+use Rattle.polar.specs.Relation.{Relation, sumOf, symbols, tied, wordBy, unit, row}
+use Rattle.polar.proofs.Undo.{symbols-are}
 use Rattle.polar.proofs.Matrix.{inverse-undoes, product-word, product-inverse, inverseTest, tested}
 
 -- Whether a relation names v i an odd number of times.
@@ -89,9 +90,6 @@ solves-by n rs qs t =
       within-too = b .1;
       product-unit = tested n (uses rs) (uses qs) (a .1);
     }
-
-pub same-bits : (n : ℕ) (u v : List Bool) → length u ≡ n → length v ≡ n → ((i : ℕ) → i < n → bit u i ≡ bit v i) → u ≡ v
-same-bits n u v eu ev h = ext-getD false u v (eu ∙ sym ev) (λ i l. h i (rw (← eu) l))
 
 -- Each of the first n bits of any v comes back from its symbols,
 pub solved-bit : (n : ℕ) (rs qs : List Relation) → Solves n rs qs → (v : List Bool) (i : ℕ) → i < n → bit (symbols qs (symbols rs v)) i ≡ bit v i
@@ -177,55 +175,33 @@ module _ (n : ℕ) (F G : ℕ → ℕ → Bool) (rs qs : List Relation) (k : Sol
       parity-cong n (λ i l. ap (λ b. product n G (uses rs) s i && b) (row-product i j l))
       ∙ product-inverse n G (uses rs) F (uses qs) (k .left) (k .solves .product-unit) s j ls lj
 
+  -- The code of the relations, and the matrix that undoes it.
+  abbrev pub related : Code
+  related = record { size = n; places = n; word = wordBy F rs }
+
+  abbrev pub unrelated : Code
+  unrelated = matrix n n (product n G (uses rs))
+
+  pub related-undo : UndoneBy related unrelated
+  related-undo = record {
+    back = refl;
+    there = refl;
+    undo = λ u e s l.
+        parity-cong n (λ j h. ap (λ b. b && product n G (uses rs) j s) (tabulate-at n (wordBy F rs u) j false h ∙ word-rows u e j))
+        ∙ inverse-undoes n (row F rs) (product n G (uses rs)) row-inverse (bit u) s l;
+  }
+
+  pub related-redo : UndoneBy unrelated related
+  related-redo = record {
+    back = refl;
+    there = refl;
+    undo = λ c e j l.
+        word-rows (tabulate n (unrelated .word c)) (length-tabulate n _) j
+        ∙ parity-cong n (λ s h. ap (λ b. b && row F rs s j) (tabulate-at n (unrelated .word c) s false h))
+        ∙ inverse-undoes n (product n G (uses rs)) (row F rs) inverse-row (bit c) j l;
+  }
+
   -- The symbols of a word, by that matrix.
-  undo-list : List Bool → List Bool
-  undo-list c = tabulate n (λ s. parity n (λ j. bit c j && product n G (uses rs) j s))
-
-  word-list : List Bool → List Bool
-  word-list u = tabulate n (wordBy F rs u)
-
-  undo-list-word : (u : List Bool) → length u ≡ n → undo-list (word-list u) ≡ u
-  unfolding undo-list word-list
-  undo-list-word u e =
-      same-bits n (undo-list (word-list u)) u (length-tabulate n _) e (λ s l.
-      tabulate-at n _ s false l
-      ∙ parity-cong n (λ j h. ap (λ b. b && product n G (uses rs) j s) (tabulate-at n (wordBy F rs u) j false h ∙ word-rows u e j))
-      ∙ inverse-undoes n (row F rs) (product n G (uses rs)) row-inverse (bit u) s l)
-
-  word-undo-list : (c : List Bool) → length c ≡ n → word-list (undo-list c) ≡ c
-  unfolding undo-list word-list
-  word-undo-list c e =
-      same-bits n (word-list (undo-list c)) c (length-tabulate n _) e (λ j l.
-      tabulate-at n (wordBy F rs (undo-list c)) j false l
-      ∙ word-rows (undo-list c) (length-tabulate n _) j
-      ∙ parity-cong n (λ s h. ap (λ b. b && row F rs s j) (tabulate-at n _ s false h))
-      ∙ inverse-undoes n (product n G (uses rs)) (row F rs) inverse-row (bit c) j l)
-
-  symbolsBy-list : (c : List Bool) → length c ≡ n → symbolsBy F rs c ≡ undo-list c
-  unfolding symbolsBy undo-list word-list
-  symbolsBy-list c e =
-      find-only (length rs) (λ u. same (tabulate (length rs) (wordBy F rs u)) c) (undo-list c) (length-tabulate n _ ∙ sym (k .solves .count))
-      (ap (λ m. same (tabulate m (wordBy F rs (undo-list c))) c) (k .solves .count) ∙ ap (λ w. same w c) (word-undo-list c e) ∙ same-self c)
-      (λ u eu t.
-      sym (undo-list-word u (eu ∙ k .solves .count))
-      ∙ ap undo-list (ap (λ m. tabulate m (wordBy F rs u)) (sym (k .solves .count)) ∙ same-eq (tabulate (length rs) (wordBy F rs u)) c t))
-
-  -- Undoing by the matrix.
   pub symbols-product : (c : List Bool) → length c ≡ n → (s : ℕ) → s < n
-      → bit (symbolsBy F rs c) s ≡ parity n (λ j. bit c j && product n G (uses rs) j s)
-  unfolding undo-list
-  symbols-product c e s l = ap (λ u. bit u s) (symbolsBy-list c e) ∙ tabulate-at n _ s false l
-
-  pub length-symbolsBy : (c : List Bool) → length (symbolsBy F rs c) ≡ n
-  unfolding symbolsBy
-  length-symbolsBy c = length-find (length rs) _ ∙ k .solves .count
-
-  -- Undo of encode,
-  pub symbols-of-word : (u : List Bool) → length u ≡ n → symbolsBy F rs (tabulate n (wordBy F rs u)) ≡ u
-  unfolding word-list
-  symbols-of-word u e = symbolsBy-list (word-list u) (length-tabulate n _) ∙ undo-list-word u e
-
-  -- and encode of undo.
-  pub word-of-symbols : (c : List Bool) → length c ≡ n → tabulate n (wordBy F rs (symbolsBy F rs c)) ≡ c
-  unfolding word-list
-  word-of-symbols c e = ap word-list (symbolsBy-list c e) ∙ word-undo-list c e
+      → bit (symbolsIn related c) s ≡ parity n (λ j. bit c j && product n G (uses rs) j s)
+  symbols-product c e s l = ap (λ u. bit u s) (symbols-are related unrelated related-undo related-redo c e) ∙ tabulate-at n (unrelated .word c) s false l

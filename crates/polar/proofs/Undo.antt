@@ -7,9 +7,9 @@ use native.Mathlib.Nat.{suc-mul, zero-add, mul-suc, mul-zero, mul-comm, add-comm
 use native.Mathlib.Omega.{arith}
 use lib.ListN.{length, take, drop, length-map, length-take, length-drop}
 use lib.Seq.{take-at, drop-at, drop-drop, getD-take, getD-drop}
-use Rattle.base.specs.Bit.{bit, tabulate}
-use Rattle.base.proofs.List.{length-tabulate, tabulate-at, tabulate-cong, tabulate-append}
-use Rattle.polar.specs.Code.{Code, Onto, UndoneBy}
+use Rattle.base.specs.Bit.{bit, tabulate, same}
+use Rattle.base.proofs.List.{length-tabulate, tabulate-at, tabulate-cong, tabulate-append, same-bits, same-eq, same-self, length-find, find-only}
+use Rattle.polar.specs.Code.{Code, Onto, UndoneBy, symbolsIn}
 use Rattle.polar.specs.Stages.{rows, column, staged}
 use Rattle.polar.proofs.Lowest.{quot, rest}
 use Rattle.polar.proofs.Layer.{length-rows, pos-right}
@@ -96,3 +96,33 @@ layered A B = record {
   undo = staged-undo (A .enc) (B .enc) (A .dec) (B .dec) (A .undo) (B .undo);
   redo = staged-undo (B .dec) (A .dec) (B .enc) (A .enc) (B .redo) (A .redo);
 }
+
+-- ---- the symbols of a word
+
+-- There are as many as the code has.
+pub length-symbols-in : (C : Code) (c : List Bool) → length (symbolsIn C c) ≡ C .size
+unfolding symbolsIn
+length-symbols-in C c = length-find (C .size) _
+
+-- What C makes, D makes undone.
+pub undone-list : (C D : Code) → UndoneBy C D → (u : List Bool) → length u ≡ C .size → tabulate (D .places) (D .word (tabulate (C .places) (C .word u))) ≡ u
+undone-list C D f u e =
+    same-bits (C .size) (tabulate (D .places) (D .word (tabulate (C .places) (C .word u)))) u (length-tabulate (D .places) _ ∙ f .there) e
+    (λ i l. tabulate-at (D .places) _ i false (rw (f .there) l) ∙ f .undo u e i l)
+
+module _ (C D : Code) (f : UndoneBy C D) (g : UndoneBy D C) where
+  -- Where C and D undo one another, the symbols of a word are those that D makes of it.
+  pub symbols-are : (c : List Bool) → length c ≡ C .places → symbolsIn C c ≡ tabulate (D .places) (D .word c)
+  unfolding symbolsIn
+  symbols-are c e =
+      find-only (C .size) (λ u. same (tabulate (C .places) (C .word u)) c) (tabulate (D .places) (D .word c)) (length-tabulate (D .places) _ ∙ f .there)
+      (ap (λ w. same w c) (undone-list D C g c (e ∙ sym (f .back))) ∙ same-self c)
+      (λ u eu t. sym (undone-list C D f u eu) ∙ ap (λ w. tabulate (D .places) (D .word w)) (same-eq (tabulate (C .places) (C .word u)) c t))
+
+  -- Undo of encode,
+  pub symbols-of-word : (u : List Bool) → length u ≡ C .size → symbolsIn C (tabulate (C .places) (C .word u)) ≡ u
+  symbols-of-word u e = symbols-are (tabulate (C .places) (C .word u)) (length-tabulate (C .places) _) ∙ undone-list C D f u e
+
+  -- and encode of undo.
+  pub word-of-symbols : (c : List Bool) → length c ≡ C .places → tabulate (C .places) (C .word (symbolsIn C c)) ≡ c
+  word-of-symbols c e = ap (λ u. tabulate (C .places) (C .word u)) (symbols-are c e) ∙ undone-list D C g c (e ∙ sym (f .back))

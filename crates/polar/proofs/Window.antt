@@ -11,11 +11,12 @@ use lib.Seq.{take-at, drop-at}
 use Rattle.base.specs.Bit.{_⊕_, bit}
 use Rattle.base.proofs.Bool.{⊕-false}
 use Rattle.polar.specs.Code.{Code, Costs, sum, total, lowest, least}
+use Rattle.base.proofs.List.{same-bits}
 use Rattle.polar.specs.Relation.{Relation, sumOf, symbols}
 use Rattle.polar.specs.Window.{reach, height, readAt, IsWindow, pathOf}
 use Rattle.polar.proofs.Lowest.{lowest-le, lowest-at, sum-cong}
 use Rattle.polar.proofs.Least.{least-le, least-at}
-use Rattle.polar.proofs.Relation.{within, allWithin, length-symbols, Solves, solvesTest, solves-by, same-bits, solved-bit, solved-symbols}
+use Rattle.polar.proofs.Relation.{within, allWithin, length-symbols, Solves, solvesTest, solves-by, solved-bit, solved-symbols}
 use Rattle.polar.proofs.Pigeon.{pigeon}
 
 -- The v at some places, as relations.

@@ -6,7 +6,7 @@ use Prim.Native.Nat.{ℕ, zero, suc, _+_, _-_, _<_, min}
 use lib.ListN.{length, getD}
 use lib.IntN.{ℤ, pos, negsuc, negℤ, _-ℤ_}
 use lib.Signed.{_≤ℤ_}
-use Rattle.base.specs.Bit.{bit, tabulate}
+use Rattle.base.specs.Bit.{bit, tabulate, same, find}
 
 -- A code: how many symbols make a word, how many places a word has, and the bit at a place of the word of some symbols.
 pub record Code : Type 0 where
@@ -73,3 +73,7 @@ pub record UndoneBy (C D : Code) : Type 0 where
   pub back : D .size ≡ C .places
   pub there : D .places ≡ C .size
   pub undo : (u : List Bool) → length u ≡ C .size → (i : ℕ) → i < C .size → D .word (tabulate (C .places) (C .word u)) i ≡ bit u i
+
+-- The symbols of a word of C: those whose word it is.
+unfoldable pub symbolsIn : Code → List Bool → List Bool
+symbolsIn C c = find (C .size) (λ u. same (tabulate (C .places) (C .word u)) c)

@@ -27,10 +27,6 @@ tied rs u = find (length rs) (λ v. same (symbols rs v) u)
 unfoldable pub wordBy : (ℕ → ℕ → Bool) → List Relation → List Bool → ℕ → Bool
 wordBy F rs u j = parity (length rs) (λ i. bit (tied rs u) i && F i j)
 
--- The symbols of a word: those whose word it is.
-unfoldable pub symbolsBy : (ℕ → ℕ → Bool) → List Relation → List Bool → List Bool
-symbolsBy F rs c = find (length rs) (λ u. same (tabulate (length rs) (wordBy F rs u)) c)
-
 -- n symbols of which only symbol s is 1.
 abbrev pub unit : ℕ → ℕ → List Bool
 unit n s = tabulate n (λ i. eqb i s)

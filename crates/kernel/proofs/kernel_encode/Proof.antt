@@ -3,6 +3,7 @@ use mathlib.Core.Path.{ap, sym, _∙_}
 use borrow.Author.Needs.{needs}
 use borrow.Author.Tests.{not-true, not-false}
 use Rattle.answer.specs.Verdict.{word}
+use Rattle.kernel.specs.Rows.{rowSum}
 use Rattle.kernel.specs.Jobs.{encoded}
 use Rattle.kernel.proofs.Table.{encoded-rows}
 use Rattle.kernel.proofs.Checks.{kernel-lt, kernel-refused, kernel-passed}
@@ -15,11 +16,8 @@ is-kernel-requires c κs = search needs
 returns : tie.Need-returns
 returns c = kernel-refused (c .before .before .args .kernel) _ (sym (c .before .is-kernel .ensures) ∙ not-true _ (c .if1 .taken))
 
-mul-rows : tie.Need-mul-rows
-mul-rows c = search needs
-
-array-copy-out-rows : tie.Need-array-copy-out-rows
-array-copy-out-rows c =
+kernel-rows-requires : tie.Need-kernel-rows-requires
+kernel-rows-requires c κs =
     kernel-lt (c .before .before .args .kernel) (sym (c .before .is-kernel .ensures) ∙ not-false _ (c .if1 .left))
 
 row-sum-requires : tie.Need-row-sum-requires
@@ -29,8 +27,8 @@ returns-2 : tie.Need-returns-2
 returns-2 c =
     let a = c .before .before .before .before .args in
     let e = sym (c .before .before .before .is-kernel .ensures) ∙ not-false _ (c .before .before .if1 .left) in
-    ap word (c .row-sum .ensures ∙ encoded-rows (a .kernel) (a .symbols) (kernel-lt (a .kernel) e))
+    ap word (c .row-sum .ensures ∙ ap (λ t. rowSum t (a .symbols)) (c .before .kernel-rows .ensures) ∙ encoded-rows (a .kernel) (a .symbols) (kernel-lt (a .kernel) e))
     ∙ kernel-passed (a .kernel) (word (encoded (a .kernel) (a .symbols))) e
 
 pub kernel-encode-spec : {M : Type 1} → statement M
-kernel-encode-spec = tie.close (tie.spec is-kernel-requires returns mul-rows array-copy-out-rows row-sum-requires returns-2)
+kernel-encode-spec = tie.close (tie.spec is-kernel-requires returns kernel-rows-requires row-sum-requires returns-2)

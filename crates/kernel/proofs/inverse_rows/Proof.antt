@@ -1,0 +1,17 @@
+-- `kernel::inverse_rows` meets its contract. Assumes nothing.
+use mathlib.Core.Path.{refl}
+use borrow.Author.Needs.{needs}
+use Rattle.kernel.proofs.inverse_rows.Statement.{statement}
+use Rattle.kernel.proofs.inverse_rows.Tie as tie
+
+mul-result : tie.Need-mul-result
+mul-result c = search needs
+
+array-copy-out-result : tie.Need-array-copy-out-result
+array-copy-out-result c = search needs
+
+returns : tie.Need-returns
+returns c = refl
+
+pub inverse-rows-spec : {M : Type 1} → statement M
+inverse-rows-spec = tie.close (tie.spec mul-result array-copy-out-result returns)
