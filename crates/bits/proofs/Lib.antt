@@ -1,2 +1,4 @@
 pub mod Packed
 pub mod Payload
+pub mod Tables
+pub mod Turns

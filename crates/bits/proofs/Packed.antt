@@ -1,18 +1,20 @@
 -- Laws of packed bits, for every width. Assumes nothing.
 use mathlib.Core.Path.{_≡_, refl, sym, ap, ap₂, _∙_}
-use mathlib.Core.Bool.{Bool, true, false}
+use mathlib.Core.Bool.{Bool, true, false, _&&_}
 use mathlib.Core.List.{List, [], _∷_, _++_, append-assoc, append-nil}
-use Prim.Native.Nat.{ℕ, zero, suc, _+_, _-_, _*_, _/_, _%_, _^_, _≤_, _<_, max}
+use Prim.Native.Nat.{ℕ, zero, suc, _+_, _-_, _*_, _/_, _%_, _^_, _≤_, _<_, min, max}
 use native.Mathlib.Nat.{mod-lt, mod-one, mod-self, mod-eq-of-lt, div-self, div-eq-of-lt, zero-div, mul-add-mod-self-right, max-eq-right}
-use native.Mathlib.Nat.{zero-add, suc-add, suc-sub-suc, mul-suc, mul-assoc, add-mul, add-comm, zero-mul, one-mul, two-pow-succ, le-of-suc-le-suc, div-div-eq-div-mul}
+use native.Mathlib.Nat.{zero-add, suc-add, suc-sub-suc, mul-suc, mul-assoc, add-mul, add-comm, zero-mul, one-mul, two-pow-succ, le-of-suc-le-suc, lt-of-lt-of-le, div-div-eq-div-mul}
 use native.Mathlib.Numerals.{one-add, add-one}
 use native.Mathlib.Omega.{arith}
-use lib.Bits.{bitXor, bitOr, differ, xor-shr, xor-step, or-shr, or-step, or-mod, or-zero-r}
+use lib.Bits.{bitAnd, bitXor, bitOr, differ, and-shr, and-step, xor-shr, xor-step, or-shr, or-step, or-mod, or-zero-r}
+use lib.Count.{leadingZeros, leading-of-zero, leading-top}
 use lib.Dec.{eqb, lit<}
 use lib.ListN.{length, getD, set, take, drop, replicate, length-append, replicate-append-replicate, List·getD-append}
-use lib.Pow.{pow-pos, pow-lt, pow-add, high, mod-pow-add, mod-mod-pow, field, shl-exact}
-use lib.Seq.{getD-append-add, set-append-left, set-at, drop-at, drop-nil}
-use Rattle.base.specs.Bit.{bit, _⊕_, odd}
+use lib.Pow.{pow-pos, pow-mono, pow-lt, pow-add, high, mod-pow-add, mod-mod-pow, field, shl-exact, shr-lt, shr-mono}
+use lib.Seq.{getD-append-add, set-append-left, set-at, drop-at, drop-nil, drop-cons, drop-drop, drop-append-add}
+use Rattle.base.specs.Bit.{bit, _⊕_, odd, tabulate}
+use Rattle.base.proofs.List.{tabulate-cong}
 use Rattle.bits.specs.Packed.{bits, digit, number, unpack, pad, pack}
 
 -- ---- the bits of a number
@@ -97,6 +99,51 @@ bits-split (suc j) k x =
     (ap₂ _∷_
     (ap (λ y. odd (x / y)) (ap (λ n. 2 ^ n) (add-comm j k) ∙ pow-add 2 k j) ∙ ap odd (sym (div-div-eq-div-mul x (2 ^ k) (2 ^ j))))
     (bits-split j k x))
+
+-- The low bits alone.
+drop-bits : (j k x : ℕ) → drop j (bits (j + k) x) ≡ bits k x
+drop-bits j k x = ap (drop j) (bits-split j k x) ∙ drop-at (bits j (x / 2 ^ k)) (bits k x) j (length-bits j (x / 2 ^ k))
+
+-- Two digits are both 1 where their bits are.
+odd-min : (a b : ℕ) → a < 2 → b < 2 → eqb (min a b % 2) 1 ≡ eqb a 1 && eqb b 1
+odd-min zero zero h g = refl
+odd-min zero (suc zero) h g = refl
+odd-min zero (suc (suc b)) h g = absurd (omega arith)
+odd-min (suc zero) zero h g = refl
+odd-min (suc zero) (suc zero) h g = refl
+odd-min (suc zero) (suc (suc b)) h g = absurd (omega arith)
+odd-min (suc (suc a)) b h g = absurd (omega arith)
+
+-- The lowest bit of `a & b`.
+odd-and : (a b : ℕ) → odd (bitAnd a b) ≡ odd a && odd b
+odd-and a b =
+    ap odd (and-step a b)
+    ∙ ap (λ x. eqb x 1) (mul-add-mod-self-right (bitAnd (a / 2) (b / 2)) 2 (min (a % 2) (b % 2)))
+    ∙ odd-min (a % 2) (b % 2) (omega arith) (omega arith)
+
+-- The bits of `a & b` are those that both have.
+pub and-at : (n a b i : ℕ) → bit (bits n (bitAnd a b)) i ≡ bit (bits n a) i && bit (bits n b) i
+unfolding bits
+and-at zero a b i = refl
+and-at (suc n) a b zero = ap odd (and-shr a b n) ∙ odd-and (a / 2 ^ n) (b / 2 ^ n)
+and-at (suc n) a b (suc i) = and-at n a b i
+
+-- The machine's count of the zeros above the highest bit that is set: each bit before it is 0, and the bit there is 1.
+pub leading-bits : (n x : ℕ) → x < 2 ^ n
+    → ((i : ℕ) → i < leadingZeros n x → bit (bits n x) i ≡ false) × (leadingZeros n x < n → bit (bits n x) (leadingZeros n x) ≡ true)
+leading-bits n zero h = ((λ i _. zero-at n i), λ l. absurd (omega (arith, leading-of-zero n)))
+leading-bits n (suc y) h =
+    let x : ℕ = suc y in
+    let k = leadingZeros n x in
+    let top = leading-top n x (omega arith) h in
+    let j = top .0 in
+    let e : n - suc k ≡ j = omega (arith, top .1) in
+    let one : x / 2 ^ j ≡ 1 = omega (arith, shr-lt {n = x} 1 j (rw one-add (top .3)), shr-mono j (top .2), div-self (pow-pos j)) in (
+      (λ i l.
+          let f : suc j ≤ n - suc i = omega (arith, top .1) in
+          bits-at n x i (omega (arith, top .1)) ∙ ap odd (div-eq-of-lt (lt-of-lt-of-le (top .3) (pow-mono f)))),
+      (λ l. bits-at n x k l ∙ ap (λ m. odd (x / 2 ^ m)) e ∙ ap odd one),
+    )
 
 -- ---- one bit set
 
@@ -214,6 +261,11 @@ unfolding unpack
 unpack-append [] t = refl
 unpack-append (x ∷ s) t = ap (λ l. bits 8 x ++ l) (unpack-append s t) ∙ sym (append-assoc (bits 8 x) (unpack s) (unpack t))
 
+-- The bytes from i on: byte i and those after it.
+pub unpack-next : (s : List ℕ) (i : ℕ) → i < length s → unpack (drop i s) ≡ bits 8 (getD s i 0) ++ unpack (drop (i + 1) s)
+unfolding unpack
+unpack-next s i h = rw add-one (ap unpack (drop-cons s i 0 h))
+
 -- Bit r of byte q stands at 8 q + r, and past the end all is 0.
 byte-at : (s : List ℕ) (q r : ℕ) → r < 8 → bit (unpack s) (8 * q + r) ≡ bit (bits 8 (getD s q 0)) r
 unfolding unpack
@@ -272,15 +324,6 @@ length-pad zero l = refl
 length-pad (suc n) [] = ap suc (length-pad n [])
 length-pad (suc n) (b ∷ l) = ap suc (length-pad n l)
 
--- They are those of the list.
-pub pad-at : (n : ℕ) (l : List Bool) (i : ℕ) → i < n → bit (pad n l) i ≡ bit l i
-unfolding pad
-pad-at zero l i h = absurd (omega arith)
-pad-at (suc n) [] zero h = refl
-pad-at (suc n) [] (suc i) h = pad-at n [] i (omega arith)
-pad-at (suc n) (b ∷ l) zero h = refl
-pad-at (suc n) (b ∷ l) (suc i) h = pad-at n l i (omega arith)
-
 -- The first part of two, where it has n bits.
 pub pad-front : (n : ℕ) (a b : List Bool) → length a ≡ n → pad n (a ++ b) ≡ a
 unfolding pad
@@ -300,7 +343,79 @@ pad-add zero k l = ap (λ n. pad n l) (zero-add k)
 pad-add (suc j) k [] = rw suc-add (ap (λ t. false ∷ t) (pad-add j k [] ∙ ap (λ t. pad j [] ++ pad k t) (drop-nil j)))
 pad-add (suc j) k (b ∷ l) = rw suc-add (ap (λ t. b ∷ t) (pad-add j k l))
 
+-- Fewer of them.
+pad-pad : (k w : ℕ) (l : List Bool) → k ≤ w → pad k (pad w l) ≡ pad k l
+unfolding pad
+pad-pad zero w l h = refl
+pad-pad (suc k) zero l h = absurd (omega arith)
+pad-pad (suc k) (suc w) [] h = ap (λ t. false ∷ t) (pad-pad k w [] (omega arith))
+pad-pad (suc k) (suc w) (b ∷ l) h = ap (λ t. b ∷ t) (pad-pad k w l (omega arith))
+
+-- Some of them from bit n on.
+pad-drop : (k n w : ℕ) (l : List Bool) → n + k ≤ w → pad k (drop n (pad w l)) ≡ pad k (drop n l)
+unfolding pad
+pad-drop k zero w l h = pad-pad k w l (omega arith)
+pad-drop k (suc n) zero l h = absurd (omega arith)
+pad-drop k (suc n) (suc w) [] h = pad-drop k n w [] (omega arith) ∙ ap (pad k) (drop-nil n)
+pad-drop k (suc n) (suc w) (b ∷ l) h = pad-drop k n w l (omega arith)
+
+-- w bits from bit n on, by the shift that the code makes.
+pub bits-from : (w k x n : ℕ) (l : List Bool) → n ≤ k → bits (w + k) x ≡ pad (w + k) l → bits w (x / 2 ^ (k - n) % 2 ^ w) ≡ pad w (drop n l)
+bits-from w k x n l h e =
+    let y : ℕ = x / 2 ^ (k - n) in
+    let f : w + k ≡ n + (w + (k - n)) = omega arith in
+    bits-mod w y
+    ∙ sym (pad-front w (bits w y) (bits (k - n) x) (length-bits w y))
+    ∙ ap (pad w) (sym (bits-split w (k - n) x) ∙ sym (drop-bits n (w + (k - n)) x) ∙ ap (λ m. drop n (bits m x)) (sym f) ∙ ap (drop n) e)
+    ∙ pad-drop w n (w + k) l (omega arith)
+
+-- Byte q, and past the end 0.
+byte-from : (s : List ℕ) (q : ℕ) → pad 8 (drop (8 * q) (unpack s)) ≡ bits 8 (getD s q 0)
+unfolding unpack bits pad
+byte-from [] q = ap (pad 8) (drop-nil (8 * q))
+byte-from (x ∷ s) zero = pad-front 8 (bits 8 x) (unpack s) (length-bits 8 x)
+byte-from (x ∷ s) (suc q) =
+    let e : 8 * suc q ≡ length (bits 8 x) + 8 * q = omega (arith, length-bits 8 x) in
+    ap (λ n. pad 8 (drop n (bits 8 x ++ unpack s))) e
+    ∙ ap (pad 8) (drop-append-add (bits 8 x) (unpack s) (8 * q))
+    ∙ byte-from s q
+
+-- Two bytes, from byte q on.
+pub two-bytes-from : (s : List ℕ) (q x : ℕ) → x ≡ 256 * getD s q 0 + getD s (q + 1) 0 → getD s (q + 1) 0 < 256
+    → bits 16 x ≡ pad 16 (drop (8 * q) (unpack s))
+two-bytes-from s q x e h =
+    let high : x / 2 ^ 8 ≡ getD s q 0 = omega arith in
+    let low : x % 2 ^ 8 ≡ getD s (q + 1) 0 = omega arith in
+    let f : 8 * (q + 1) ≡ 8 * q + 8 = omega arith in
+    bits-split 8 8 x
+    ∙ ap₂ _++_
+    (ap (bits 8) high ∙ sym (byte-from s q))
+    (sym (bits-mod 8 x) ∙ ap (bits 8) low ∙ sym (byte-from s (q + 1))
+    ∙ ap (λ n. pad 8 (drop n (unpack s))) f ∙ ap (pad 8) (sym (drop-drop 8 (8 * q) (unpack s))))
+    ∙ sym (pad-add 8 8 (drop (8 * q) (unpack s)))
+
 -- ---- bytes from bits
+
+-- Byte i of packed bits.
+abbrev pub byteAt : List Bool → ℕ → ℕ
+byteAt l i = number (pad 8 (drop (8 * i) l))
+
+-- Packed bits are these bytes.
+pub pack-bytes : (n : ℕ) (l : List Bool) → pack n l ≡ tabulate n (byteAt l)
+unfolding pack tabulate
+pack-bytes zero l = refl
+pack-bytes (suc n) l =
+    ap (λ t. number (pad 8 l) ∷ t)
+    (pack-bytes n (drop 8 l)
+    ∙ tabulate-cong n (λ i _. let e : 8 + 8 * i ≡ 8 * suc i = omega arith in ap (λ t. number (pad 8 t)) (drop-drop (8 * i) 8 l ∙ ap (λ k. drop k l) e)))
+
+-- Byte i where its bits are known, with those after it.
+pub byte-next : (l a r : List Bool) (i : ℕ) → length a ≡ 8 → a ++ r ≡ drop (8 * i) l → (number a ≡ byteAt l i) × (r ≡ drop (8 * (i + 1)) l)
+byte-next l a r i h e =
+    let f : 8 * i + 8 ≡ 8 * (i + 1) = omega arith in (
+      ap number (sym (pad-front 8 a r h) ∙ ap (pad 8) e),
+      sym (drop-at a r 8 h) ∙ ap (drop 8) e ∙ drop-drop 8 (8 * i) l ∙ ap (λ k. drop k l) f,
+    )
 
 -- There are as many bytes as asked for.
 pub length-pack : (n : ℕ) (l : List Bool) → length (pack n l) ≡ n

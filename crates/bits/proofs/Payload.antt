@@ -1,21 +1,21 @@
 -- Laws of counting marks, spreading a payload over the marked phases and gathering it again. Assumes nothing.
 use mathlib.Core.Path.{_≡_, refl, sym, ap, ap₂, _∙_}
-use mathlib.Core.Bool.{Bool, true, false, _&&_, false≢true}
+use mathlib.Core.Bool.{Bool, true, false, false≢true}
 use mathlib.Core.List.{List, [], _∷_, _++_}
 use mathlib.Core.Logic.{_⊎_, inl, inr}
 use Prim.Native.Nat.{ℕ, zero, suc, _+_, _*_, _/_, _%_, _^_, _≤_, _<_}
-use native.Mathlib.Nat.{add-zero, mod-lt, le-antisymm, lt-of-not-le, le-of-suc-le-suc}
-use native.Mathlib.Numerals.{add-one, one-add}
+use native.Mathlib.Nat.{mod-lt, le-antisymm, lt-of-not-le, le-of-suc-le-suc}
+use native.Mathlib.Numerals.{one-add}
 use native.Mathlib.Omega.{arith}
 use lib.Count
 use lib.Count.{ones-cat}
-use lib.ListN.{length, getD, set, take, drop, replicate}
+use lib.ListN.{length, getD, drop}
 use lib.Pow.{pow-pos, split, shr-lt}
-use lib.Seq.{drop-cons}
+use lib.Seq.{drop-nil}
 use Rattle.base.specs.Bit.{bit, odd}
 use Rattle.bits.specs.Packed.{bits, digit, unpack, pad, pack}
 use Rattle.bits.specs.Payload.{ones, spread, gather, frozenOne}
-use Rattle.bits.proofs.Packed.{bits-mod, length-unpack, unpack-zero, unpack-pack, packed}
+use Rattle.bits.proofs.Packed.{bits-mod, length-unpack, unpack-next, unpack-pack, packed}
 
 -- ---- counting
 
@@ -60,9 +60,7 @@ count-bits (suc n) x h =
 
 -- The bytes that are left to count are one byte and those after it.
 pub ones-next : (s : List ℕ) (i : ℕ) → i < length s → ones (unpack (drop i s)) ≡ ones (bits 8 (getD s i 0)) + ones (unpack (drop (i + 1) s))
-unfolding unpack
-ones-next s i h =
-    rw add-one (ap (λ t. ones (unpack t)) (drop-cons s i 0 h) ∙ ones-append (bits 8 (getD s i 0)) (unpack (drop (suc i) s)))
+ones-next s i h = ap ones (unpack-next s i h) ∙ ones-append (bits 8 (getD s i 0)) (unpack (drop (i + 1) s))
 
 -- ---- spreading and gathering
 
@@ -82,6 +80,33 @@ length-gather (false ∷ m) [] = length-gather m []
 length-gather (false ∷ m) (b ∷ u) = length-gather m u
 length-gather (true ∷ m) [] = ap suc (length-gather m [])
 length-gather (true ∷ m) (b ∷ u) = ap suc (length-gather m u)
+
+-- The phases of two parts: the second part's payload begins after the first's.
+pub spread-append : (l m p : List Bool) → spread (l ++ m) p ≡ spread l p ++ spread m (drop (ones l) p)
+unfolding spread ones
+spread-append [] m p = refl
+spread-append (false ∷ l) m p = ap (λ t. false ∷ t) (spread-append l m p)
+spread-append (true ∷ l) m [] = ap (λ t. false ∷ t) (spread-append l m [] ∙ ap (λ q. spread l [] ++ spread m q) (drop-nil (ones l)))
+spread-append (true ∷ l) m (b ∷ p) = ap (λ t. b ∷ t) (spread-append l m p)
+
+-- Only as many payload bits count as there are phases.
+pub spread-some : (m p : List Bool) (n : ℕ) → length m ≤ n → spread m (pad n p) ≡ spread m p
+unfolding spread pad
+spread-some [] p n h = refl
+spread-some (false ∷ m) p n h = ap (λ t. false ∷ t) (spread-some m p n (omega arith))
+spread-some (true ∷ m) p zero h = absurd (omega arith)
+spread-some (true ∷ m) [] (suc n) h = ap (λ t. false ∷ t) (spread-some m [] n (omega arith))
+spread-some (true ∷ m) (b ∷ p) (suc n) h = ap (λ t. b ∷ t) (spread-some m p n (omega arith))
+
+-- The marked symbols of two parts.
+pub gather-append : (l m u v : List Bool) → length u ≡ length l → gather (l ++ m) (u ++ v) ≡ gather l u ++ gather m v
+unfolding gather
+gather-append [] m [] v e = refl
+gather-append [] m (b ∷ u) v e = absurd (omega arith)
+gather-append (false ∷ l) m [] v e = absurd (omega arith)
+gather-append (false ∷ l) m (b ∷ u) v e = gather-append l m u v (omega arith)
+gather-append (true ∷ l) m [] v e = absurd (omega arith)
+gather-append (true ∷ l) m (b ∷ u) v e = ap (λ t. b ∷ t) (gather-append l m u v (omega arith))
 
 -- What was spread is gathered again.
 pub gather-spread : (m p : List Bool) → ones m ≡ length p → gather m (spread m p) ≡ p
@@ -162,6 +187,25 @@ frozen-is m u i h below here =
     (le-of-suc-le-suc (lt-of-not-le (λ g. clash (bit m i) (bit u i) (here (omega arith)) (frozen-lowest m u i g))))
     (le-of-suc-le-suc (lt-of-not-le (λ g. clash (bit m (frozenOne m u)) (bit u (frozenOne m u)) (frozen-found m u (omega arith)) (below (frozenOne m u) g))))
 
+-- Where the first of two parts has none, it is looked for in the second.
+pub frozen-second : (l m u v : List Bool) → length u ≡ length l → frozenOne l u ≡ length l → frozenOne (l ++ m) (u ++ v) ≡ length l + frozenOne m v
+unfolding frozenOne
+frozen-second [] m [] v e f = omega arith
+frozen-second [] m (b ∷ u) v e f = absurd (omega arith)
+frozen-second (c ∷ l) m [] v e f = absurd (omega arith)
+frozen-second (true ∷ l) m (b ∷ u) v e f = omega (arith, frozen-second l m u v (omega arith) (omega arith))
+frozen-second (false ∷ l) m (true ∷ u) v e f = absurd (omega arith)
+frozen-second (false ∷ l) m (false ∷ u) v e f = omega (arith, frozen-second l m u v (omega arith) (omega arith))
+
+-- Where it has one, that is it.
+pub frozen-first : (l m u v : List Bool) → length u ≡ length l → frozenOne l u < length l → frozenOne (l ++ m) (u ++ v) ≡ frozenOne l u
+unfolding frozenOne
+frozen-first [] m u v e f = absurd (omega arith)
+frozen-first (c ∷ l) m [] v e f = absurd (omega arith)
+frozen-first (true ∷ l) m (b ∷ u) v e f = ap suc (frozen-first l m u v (omega arith) (omega arith))
+frozen-first (false ∷ l) m (true ∷ u) v e f = refl
+frozen-first (false ∷ l) m (false ∷ u) v e f = ap suc (frozen-first l m u v (omega arith) (omega arith))
+
 -- ---- packed
 
 -- Packed symbols have no 1 at an unmarked phase.
@@ -194,112 +238,3 @@ symbols-back mask symbols e h f =
     let u = unpack symbols in
     packed symbols (length mask) _ e h
     (sym (spread-gather m u (length-unpack symbols ∙ ap (λ n. 8 * n) e ∙ sym (length-unpack mask)) (f ∙ sym (length-unpack mask))))
-
--- ---- a turn of a loop over the phases
-
--- The marks below phase i + 1, by the bit of phase i.
-ones-take : (m : List Bool) (i : ℕ) → i < length m → ones (take (suc i) m) ≡ ones (take i m) + digit (bit m i)
-unfolding ones
-ones-take [] i h = absurd (omega arith)
-ones-take (true ∷ m) zero h = refl
-ones-take (false ∷ m) zero h = refl
-ones-take (true ∷ m) (suc i) h = omega (arith, ones-take m i (omega arith))
-ones-take (false ∷ m) (suc i) h = ones-take m i (omega arith)
-
--- A marked phase is one mark more.
-pub ones-marked : (m : List Bool) (i : ℕ) → i < length m → bit m i ≡ true → ones (take (i + 1) m) ≡ ones (take i m) + 1
-ones-marked m i h e = rw (add-one i) (ones-take m i h ∙ ap (λ b. ones (take i m) + digit b) e)
-
--- An unmarked phase is no mark more.
-pub ones-unmarked : (m : List Bool) (i : ℕ) → i < length m → bit m i ≡ false → ones (take (i + 1) m) ≡ ones (take i m)
-ones-unmarked m i h e = rw (add-one i) (ones-take m i h ∙ ap (λ b. ones (take i m) + digit b) e ∙ add-zero (ones (take i m)))
-
--- A marked phase has a payload bit of its own.
-pub ones-take-lt : (m : List Bool) (i : ℕ) → bit m i ≡ true → ones (take i m) < ones m
-unfolding ones
-ones-take-lt [] i e = absurd (false≢true e)
-ones-take-lt (true ∷ m) zero e = omega arith
-ones-take-lt (false ∷ m) zero e = absurd (false≢true e)
-ones-take-lt (true ∷ m) (suc i) e = omega (arith, ones-take-lt m i e)
-ones-take-lt (false ∷ m) (suc i) e = ones-take-lt m i e
-
--- The symbol at a phase: the next payload bit where the phase is marked, and 0 elsewhere.
-pub spread-at : (m p : List Bool) (i : ℕ) → bit (spread m p) i ≡ bit m i && bit p (ones (take i m))
-unfolding spread ones
-spread-at [] p i = refl
-spread-at (false ∷ m) p zero = refl
-spread-at (false ∷ m) p (suc i) = spread-at m p i
-spread-at (true ∷ m) [] zero = refl
-spread-at (true ∷ m) [] (suc i) = spread-at m [] i
-spread-at (true ∷ m) (b ∷ p) zero = refl
-spread-at (true ∷ m) (b ∷ p) (suc i) = spread-at m p i
-
--- The payload bit of a marked phase is its symbol.
-pub gather-at : (m u : List Bool) (i : ℕ) → bit m i ≡ true → bit (gather m u) (ones (take i m)) ≡ bit u i
-unfolding gather ones
-gather-at [] u i e = absurd (false≢true e)
-gather-at (false ∷ m) u zero e = absurd (false≢true e)
-gather-at (false ∷ m) [] (suc i) e = gather-at m [] i e
-gather-at (false ∷ m) (b ∷ u) (suc i) e = gather-at m u i e
-gather-at (true ∷ m) [] zero e = refl
-gather-at (true ∷ m) (b ∷ u) zero e = refl
-gather-at (true ∷ m) [] (suc i) e = gather-at m [] i e
-gather-at (true ∷ m) (b ∷ u) (suc i) e = gather-at m u i e
-
--- The first i bits of a list, and 0 for the others.
-unfoldable pub upTo : ℕ → List Bool → List Bool
-upTo i [] = []
-upTo zero (b ∷ l) = false ∷ upTo zero l
-upTo (suc i) (b ∷ l) = b ∷ upTo i l
-
--- With no bit yet, all are 0.
-up-to-zero : (l : List Bool) → upTo 0 l ≡ replicate (length l) false
-unfolding upTo
-up-to-zero [] = refl
-up-to-zero (b ∷ l) = ap (λ l. false ∷ l) (up-to-zero l)
-
--- Cleared bytes are those with no bit yet.
-pub up-to-none : (n : ℕ) (l : List Bool) → length l ≡ 8 * n → unpack (replicate n 0) ≡ upTo 0 l
-up-to-none n l e = unpack-zero n ∙ sym (up-to-zero l ∙ ap (λ k. replicate k false) e)
-
--- With as many bits as there are, it is the list.
-pub up-to-all : (i : ℕ) (l : List Bool) → length l ≤ i → upTo i l ≡ l
-unfolding upTo
-up-to-all i [] h = refl
-up-to-all zero (b ∷ l) h = absurd (omega arith)
-up-to-all (suc i) (b ∷ l) h = ap (λ l. b ∷ l) (up-to-all i l (omega arith))
-
--- A next bit 1 is set.
-set-next : (i : ℕ) (l : List Bool) → bit l i ≡ true → set (upTo i l) i true ≡ upTo (suc i) l
-unfolding upTo
-set-next i [] e = refl
-set-next zero (b ∷ l) e = ap (λ b. b ∷ upTo 0 l) (sym e)
-set-next (suc i) (b ∷ l) e = ap (λ l. b ∷ l) (set-next i l e)
-
--- A next bit 0 needs nothing.
-skip-next : (i : ℕ) (l : List Bool) → bit l i ≡ false → upTo i l ≡ upTo (suc i) l
-unfolding upTo
-skip-next i [] e = refl
-skip-next zero (b ∷ l) e = ap (λ b. b ∷ upTo 0 l) (sym e)
-skip-next (suc i) (b ∷ l) e = ap (λ l. b ∷ l) (skip-next i l e)
-
--- A next bit 1 is set, at i + 1 as the code counts.
-pub up-to-set : (i : ℕ) (l : List Bool) → bit l i ≡ true → set (upTo i l) i true ≡ upTo (i + 1) l
-up-to-set i l e = rw add-one (set-next i l e)
-
--- A next bit 0 needs nothing, at i + 1 as the code counts.
-pub up-to-skip : (i : ℕ) (l : List Bool) → bit l i ≡ false → upTo i l ≡ upTo (i + 1) l
-up-to-skip i l e = rw add-one (skip-next i l e)
-
--- What fills an empty list up is 0.
-zeros-pad : (n : ℕ) → upTo 0 (pad n []) ≡ pad n []
-unfolding upTo pad
-zeros-pad zero = refl
-zeros-pad (suc n) = ap (λ l. false ∷ l) (zeros-pad n)
-
--- The bits that fill a list up are 0 already.
-pub up-to-pad : (n : ℕ) (l : List Bool) → upTo (length l) (pad n l) ≡ pad n l
-unfolding upTo pad
-up-to-pad zero l = refl
-up-to-pad (suc n) [] = zeros-pad (suc n)
-up-to-pad (suc n) (b ∷ l) = ap (λ l. b ∷ l) (up-to-pad n l)

@@ -1,46 +1,54 @@
--- `bits::frozen_one` meets its contract. Invariant: each phase passed is marked or has symbol 0. Assumes nothing.
-use mathlib.Core.Path.{_≡_, sym, _∙_}
-use mathlib.Core.Bool.{true, false}
-use mathlib.Core.Logic.{_⊎_, inl, inr, ⊎-elim}
-use Prim.Native.Nat.{ℕ, _≤_, _<_, _-_}
+-- `bits::frozen_one` meets its contract: the first i bytes have no symbol outside the mask. Assumes nothing.
+use mathlib.Core.Path.{_≡_, ap}
+use Prim.Native.Nat.{ℕ, _+_, _-_, _*_, _^_, _≤_, _<_}
+use native.Mathlib.Nat.{lt-of-le-of-lt}
 use native.Mathlib.Omega.{arith}
-use borrow.Author.Count.{below-more}
-use borrow.Author.Tests.{not-true, not-false}
 use borrow.Author.Needs.{needs}
-use Rattle.base.specs.Bit.{bit}
+use lib.Count.{leadingZeros, leading-le}
+use lib.Dec.{lit<}
+use lib.ListN.{length, drop}
+use lib.Seq.{drop-length}
 use Rattle.bits.specs.Packed.{unpack}
-use Rattle.bits.proofs.Packed.{length-unpack}
-use Rattle.bits.proofs.Payload.{frozen-is}
+use Rattle.bits.specs.Payload.{frozenOne}
+use Rattle.bits.proofs.Turns.{frozen-none, frozen-some}
 use Rattle.bits.proofs.frozen_one.Statement.{statement}
 use Rattle.bits.proofs.frozen_one.Tie as tie
 
 abbrev Inv-loop : tie.InvT-loop
-Inv-loop mask symbols n i₀ i = (i ≤ n) × ((k : ℕ) → k < i → (bit (unpack mask) k ≡ true) ⊎ (bit (unpack symbols) k ≡ false))
+Inv-loop mask symbols i₀ i =
+    (i ≤ length mask) × (frozenOne (unpack mask) (unpack symbols) ≡ 8 * i + frozenOne (unpack (drop i mask)) (unpack (drop i symbols)))
 
 abbrev μ-loop : tie.MeasureT-loop
-μ-loop mask symbols n i₀ i = n - i
-
-mul-n : tie.Need-mul-n Inv-loop μ-loop
-mul-n c = search needs
+μ-loop mask symbols i₀ i = length mask - i
 
 loop-holds : tie.Need-loop-holds Inv-loop μ-loop
-loop-holds c = (omega arith, λ k h. absurd (omega arith))
+loop-holds c = (search needs, omega arith)
 
-bit-requires : tie.Need-bit-requires Inv-loop μ-loop
-bit-requires c κs = search needs
+shared-slice-read-u : tie.Need-shared-slice-read-u Inv-loop μ-loop
+shared-slice-read-u c = search needs
 
-bit-requires-2 : tie.Need-bit-requires-2 Inv-loop μ-loop
-bit-requires-2 c κs = search needs
+shared-slice-read-x : tie.Need-shared-slice-read-x Inv-loop μ-loop
+shared-slice-read-x c = search needs
+
+mul-result : tie.Need-mul-result Inv-loop μ-loop
+mul-result c = search needs
+
+cast-result : tie.Need-cast-result Inv-loop μ-loop
+cast-result c = record { fits = lt-of-le-of-lt (leading-le 8 _) (lit< tt) }
+
+-- A place among the phases.
+place : (i x : ℕ) → i ≤ 4096 → 8 * i + leadingZeros 8 x < 2 ^ 64
+place i x h = omega (arith, leading-le 8 x)
+
+add-result : tie.Need-add-result Inv-loop μ-loop
+add-result c = record { fits = place _ _ (search needs) }
 
 returns : tie.Need-returns Inv-loop μ-loop
 returns c =
-    let s = c .before .before .before .before .before .before .before .before in
-    let m = unpack (s .args .mask .now) in
-    let u = unpack (s .args .symbols .now) in
-    let l = c .before .before .before .before .before .loop in
-    sym
-    (frozen-is m u (l .i) (omega (arith, length-unpack (s .args .mask .now))) (l .inv .1)
-    (λ h. (sym (c .before .bit2 .ensures) ∙ not-true _ (c .if2 .taken), sym (c .before .before .before .bit .ensures) ∙ c .before .before .if1 .taken)))
+    let a = c .before .before .before .before .before .args in
+    let l = c .before .before .before .before .loop in
+    let f = frozen-some (a .mask .now) (a .symbols .now) (l .i) (search needs) (search needs) (c .if1 .taken) (c .before .before .shared-slice-known .given (l .i) .fits) in
+    omega (arith, l .inv .1, f)
 
 add-i : tie.Need-add-i Inv-loop μ-loop
 add-i c = search needs
@@ -50,24 +58,21 @@ loop-less c = search needs
 
 loop-again : tie.Need-loop-again Inv-loop μ-loop
 loop-again c =
-    let s = c .before .before .before .before .before .before in
-    let m = unpack (s .args .mask .now) in
-    let u = unpack (s .args .symbols .now) in
-    let i = c .before .before .before .loop .i in (
-      omega arith,
-      below-more (λ k. (bit m k ≡ true) ⊎ (bit u k ≡ false)) i (c .before .before .before .loop .inv .1)
-          (⊎-elim
-          (λ w. inl (sym (w .1 .ensures) ∙ not-false _ (w .2 .left)))
-          (λ w. inr (sym (c .before .bit .ensures) ∙ w .left))
-          (c .if1 .came)),
-    )
+    let a = c .before .before .before .before .before .args in
+    let l = c .before .before .before .before .loop in
+    (search needs, omega (arith, l .inv .1, frozen-none (a .mask .now) (a .symbols .now) (l .i) (search needs) (search needs) (c .if1 .left)))
+
+mul-result-2 : tie.Need-mul-result-2 Inv-loop μ-loop
+mul-result-2 c = search needs
 
 returns-2 : tie.Need-returns-2 Inv-loop μ-loop
+unfolding unpack frozenOne
 returns-2 c =
-    let s = c .before .before .before .before in
-    let m = unpack (s .args .mask .now) in
-    let e = length-unpack (s .args .mask .now) in
-    sym (frozen-is m (unpack (s .args .symbols .now)) (c .before .loop .i) (omega arith) (c .before .loop .inv .1) (λ h. absurd (omega arith)))
+    let a = c .before .before .args in
+    let e : c .before .loop .i ≡ length (a .mask .now) = search needs in
+    let f : frozenOne (unpack (drop (length (a .mask .now)) (a .mask .now))) (unpack (drop (c .before .loop .i) (a .symbols .now))) ≡ 0 =
+    ap (λ t. frozenOne (unpack t) (unpack (drop (c .before .loop .i) (a .symbols .now)))) (drop-length (a .mask .now)) in
+    omega (arith, c .before .loop .inv .1, ap (λ n. frozenOne (unpack (drop n (a .mask .now))) (unpack (drop (c .before .loop .i) (a .symbols .now)))) e)
 
 pub frozen-one-spec : {M : Type 1} → statement M
 frozen-one-spec =
@@ -75,12 +80,15 @@ frozen-one-spec =
     (tie.spec
     Inv-loop
     μ-loop
-    mul-n
     loop-holds
-    bit-requires
-    bit-requires-2
+    shared-slice-read-u
+    shared-slice-read-x
+    mul-result
+    cast-result
+    add-result
     returns
     add-i
     loop-less
     loop-again
+    mul-result-2
     returns-2)

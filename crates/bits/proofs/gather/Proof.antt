@@ -1,56 +1,117 @@
--- `bits::gather` meets its contract. Invariant: the first j payload bits are written, and j is how many of the phases passed are marked. Assumes nothing.
-use mathlib.Core.Path.{_≡_, refl, sym, _∙_, ap}
-use mathlib.Core.Bool.{true, false}
+-- `bits::gather` meets its contract: the first j bytes are stored, and the bits that are held and those of the bytes that are left are the rest. Assumes nothing.
+use mathlib.Core.Path.{_≡_, refl, sym, ap, ap₂, _∙_}
+use mathlib.Core.Bool.{Bool}
+use mathlib.Core.List.{List, _++_}
 use mathlib.Core.Logic.{⊎-elim}
-use Prim.Native.Nat.{_≤_, _<_, _-_, _*_, _+_}
+use Prim.Native.Nat.{ℕ, _+_, _-_, _*_, _/_, _%_, _^_, _≤_, _<_}
+use native.Mathlib.Nat.{lt-of-lt-of-le}
 use native.Mathlib.Omega.{arith}
 use borrow.Author.Needs.{needs}
-use lib.ListN.{length, take, set}
-use lib.Seq.{take-length}
-use Rattle.base.specs.Bit.{bit}
-use Rattle.bits.specs.Packed.{unpack, pad}
+use lib.ListN.{length, getD, drop, set, length-set}
+use lib.Pow.{pow-mono, shl-exact, shl-lt}
+use lib.Seq.{drop-length}
+use Rattle.base.specs.Bit.{tabulate}
+use Rattle.base.proofs.List.{filled, fill-next}
+use Rattle.bits.specs.Packed.{bits, number, unpack}
 use Rattle.bits.specs.Payload.{ones, gather}
-use Rattle.bits.proofs.Packed.{length-unpack, length-pad, pad-at}
-use Rattle.bits.proofs.Payload.{upTo, up-to-none, up-to-pad, up-to-set, up-to-skip, length-gather, gather-at, ones-take-lt, ones-marked, ones-unmarked}
+use Rattle.bits.specs.Tables.{onesTable, gatherTable}
+use Rattle.bits.proofs.Packed.{length-unpack, byteAt, pack-bytes}
+use Rattle.bits.proofs.Payload.{ones-le, ones-next}
+use Rattle.bits.proofs.Tables.{marks-le}
+use Rattle.bits.proofs.Turns.{gather-turn, gather-store}
 use Rattle.bits.proofs.gather.Statement.{statement}
 use Rattle.bits.proofs.gather.Tie as tie
 
+-- All the marked symbols.
+abbrev all : List ℕ → List ℕ → List Bool
+all mask symbols = gather (unpack mask) (unpack symbols)
+
 abbrev Inv-loop : tie.InvT-loop
-Inv-loop mask symbols payload₀ n i₀ j₀ payload i j =
-    (i ≤ n) × (length payload ≡ length payload₀)
-    × (unpack payload ≡ upTo j (pad (8 * length payload₀) (gather (unpack mask) (unpack symbols))))
-    × (j ≡ ones (take i (unpack mask))) × (j ≤ i)
+Inv-loop mask symbols payload₀ counts table i₀ j₀ held₀ n₀ payload i j held n =
+    (i ≤ length mask) × (n < 8) × (length payload ≡ length payload₀) × (8 * j + n + ones (unpack (drop i mask)) ≡ ones (unpack mask))
+    × (payload ≡ filled (byteAt (all mask symbols)) j payload₀)
+    × (bits n held ++ gather (unpack (drop i mask)) (unpack (drop i symbols)) ≡ drop (8 * j) (all mask symbols))
 
 abbrev μ-loop : tie.MeasureT-loop
-μ-loop mask symbols payload₀ n i₀ j₀ payload i j = n - i
-
-mul-n : tie.Need-mul-n Inv-loop μ-loop
-mul-n c = search needs
+μ-loop mask symbols payload₀ counts table i₀ j₀ held₀ n₀ payload i j held n = length mask - i
 
 loop-holds : tie.Need-loop-holds Inv-loop μ-loop
-unfolding ones
-loop-holds c =
-    let s = c .before .before .before in
-    let n = length (s .args .payload .now) in
-    let g = gather (unpack (s .args .mask .now)) (unpack (s .args .symbols .now)) in
-    (search needs, refl, ap unpack (s .pre .1 .1) ∙ up-to-none n (pad (8 * n) g) (length-pad (8 * n) g), refl, search needs)
+unfolding tabulate bits
+loop-holds c = (search needs, search needs, refl, omega arith, refl, refl)
 
-bit-requires : tie.Need-bit-requires Inv-loop μ-loop
-bit-requires c κs = search needs
+shared-slice-read-m : tie.Need-shared-slice-read-m Inv-loop μ-loop
+shared-slice-read-m c = search needs
 
-bit-requires-2 : tie.Need-bit-requires-2 Inv-loop μ-loop
-bit-requires-2 c κs = search needs
+shared-slice-read-gather-byte : tie.Need-shared-slice-read-gather-byte Inv-loop μ-loop
+shared-slice-read-gather-byte c = search needs
 
-set-bit-requires : tie.Need-set-bit-requires Inv-loop μ-loop
-set-bit-requires c κs =
-    let b = c .before .before .before .before in
-    let s = b .before .before .before .before .before .before in
-    let m = unpack (s .args .mask .now) in
-    let l = b .before .before .loop in
-    omega (arith, ones-take-lt m (l .i) (sym (b .bit .ensures) ∙ c .before .before .before .if1 .taken), s .pre .1 .0, l .inv .3)
+gather-byte-requires : tie.Need-gather-byte-requires Inv-loop μ-loop
+unfolding onesTable gatherTable tabulate bits number ones gather
+gather-byte-requires c κs = (refl, refl)
+
+marks-requires : tie.Need-marks-requires Inv-loop μ-loop
+unfolding onesTable tabulate bits ones
+marks-requires c κs = refl
+
+-- A byte has at most eight marked phases.
+few : (c : tie.After-marks Inv-loop μ-loop) → c .marks .result ≤ 8
+few c =
+    let b = c .before .before .before .before .before .before .before .before in
+    omega (arith, c .marks .ensures, marks-le 8 (getD (b .before .before .before .before .args .mask .now) (b .loop .i) 0))
+
+-- What is held, shifted, still fits.
+shifted : (c : tie.After-marks Inv-loop μ-loop) →
+    let x = c .before .before .before .before .before .before .before .before .loop .held % 256 * 2 ^ c .marks .result in
+    (x % 2 ^ 32 ≡ x) × (x < 2 ^ 16)
+shifted c =
+    let h : c .before .before .before .before .before .before .before .before .loop .held % 256 < 2 ^ 8 = omega arith in
+    let k = few c in
+    (shl-exact 8 (c .marks .result) 32 h (omega arith), lt-of-lt-of-le (shl-lt 8 (c .marks .result) h) (pow-mono {j = 16} (omega arith)))
+
+-- The marked symbols of a byte make a byte.
+small : (c : tie.After-marks Inv-loop μ-loop) → c .before .before .gather-byte .result < 256
+small c = c .before .before .gather-byte .ok
+
+cast-held : tie.Need-cast-held Inv-loop μ-loop
+cast-held c = omega (arith, few c)
+
+shl-held : tie.Need-shl-held Inv-loop μ-loop
+shl-held c = omega (arith, few c)
+
+cast-held-2 : tie.Need-cast-held-2 Inv-loop μ-loop
+cast-held-2 c = omega (arith, small c)
+
+add-held : tie.Need-add-held Inv-loop μ-loop
+add-held c = omega (arith, shifted c .0, shifted c .1, small c)
+
+add-n : tie.Need-add-n Inv-loop μ-loop
+add-n c = omega (arith, few c)
+
+cast-payload : tie.Need-cast-payload Inv-loop μ-loop
+cast-payload c = omega (arith, few (c .before))
+
+shr-payload : tie.Need-shr-payload Inv-loop μ-loop
+shr-payload c = omega (arith, few (c .before))
+
+cast-payload-2 : tie.Need-cast-payload-2 Inv-loop μ-loop
+cast-payload-2 c = search needs
+
+-- There is room for the next byte.
+room : (c : tie.Then1 Inv-loop μ-loop) →
+    let l = c .before .before .before .before .before .before .before .before .before .loop in
+    l .j < length (l .payload)
+room c =
+    let s = c .before .before .before .before .before .before .before .before .before .before .before .before .before in
+    let l = c .before .before .before .before .before .before .before .before .before .loop in
+    omega (arith, s .pre .1, l .inv .2, l .inv .3, c .before .marks .ensures, ones-next (s .args .mask .now) (l .i) (search needs))
+
+slice-write-payload : tie.Need-slice-write-payload Inv-loop μ-loop
+slice-write-payload c = room c
 
 add-j : tie.Need-add-j Inv-loop μ-loop
-add-j c = search needs
+add-j c =
+    let s = c .before .before .before .before .before .before .before .before .before .before .before .before .before .args .mask .now in
+    omega (arith, c .before .before .before .before .before .before .before .before .before .loop .inv .3, ones-le (unpack s), length-unpack s)
 
 add-i : tie.Need-add-i Inv-loop μ-loop
 add-i c = search needs
@@ -58,58 +119,56 @@ add-i c = search needs
 loop-less : tie.Need-loop-less Inv-loop μ-loop
 loop-less c = search needs
 
--- The payload after a marked phase.
-filled : (c : tie.Joined2 Inv-loop μ-loop) →
-    let s = c .before .before .before .before .before .before .before .before .before in
-    (length (c .if2 .payload) ≡ length (s .args .payload .now))
-    × (unpack (c .if2 .payload)
-    ≡ upTo (c .before .before .before .before .before .loop .j + 1) (pad (8 * length (s .args .payload .now)) (gather (unpack (s .args .mask .now)) (unpack (s .args .symbols .now)))))
-filled c =
-    let s = c .before .before .before .before .before .before .before .before .before in
-    let m = unpack (s .args .mask .now) in
-    let u = unpack (s .args .symbols .now) in
-    let k = 8 * length (s .args .payload .now) in
-    let g = pad k (gather m u) in
-    let l = c .before .before .before .before .before .loop in
-    let e : bit m (l .i) ≡ true = sym (c .before .before .before .bit .ensures) ∙ c .before .before .if1 .taken in
-    let f : ones (take (l .i) m) < k = omega (arith, ones-take-lt m (l .i) e, s .pre .1 .0) in
-    let q : bit g (l .j) ≡ c .before .bit2 .result =
-    ap (bit g) (l .inv .3) ∙ pad-at k (gather m u) (ones (take (l .i) m)) f ∙ gather-at m u (l .i) e ∙ sym (c .before .bit2 .ensures) in
-    ⊎-elim
-    (λ v. (
-      omega (arith, ap length (v .5), v .2 .kept .0, l .inv .1),
-      ap unpack (v .5) ∙ v .2 .ensures ∙ ap (λ t. set t (l .j) true) (l .inv .2) ∙ up-to-set (l .j) g (q ∙ v .0 .taken),
-    ))
-    (λ v. (ap length (v .1) ∙ l .inv .1, ap unpack (v .1) ∙ l .inv .2 ∙ up-to-skip (l .j) g (q ∙ v .0 .left)))
-    (c .if2 .came)
+-- The bits that are held with those of the byte, and what is left.
+turned : (c : tie.After-marks Inv-loop μ-loop) →
+    let a = c .before .before .before .before .before .before .before .before .before .before .before .before .args in
+    let l = c .before .before .before .before .before .before .before .before .loop in
+    bits (l .n + c .marks .result) (l .held % 256 * 2 ^ c .marks .result % 2 ^ 32 + c .before .before .gather-byte .result)
+    ++ gather (unpack (drop (l .i + 1) (a .mask .now))) (unpack (drop (l .i + 1) (a .symbols .now))) ≡ drop (8 * l .j) (all (a .mask .now) (a .symbols .now))
+turned c =
+    let s = c .before .before .before .before .before .before .before .before .before .before .before .before in
+    let a = s .args in
+    let l = c .before .before .before .before .before .before .before .before .loop in
+    let r = gather (unpack (drop (l .i + 1) (a .mask .now))) (unpack (drop (l .i + 1) (a .symbols .now))) in
+    let g = gather (bits 8 (getD (a .mask .now) (l .i) 0)) (bits 8 (getD (a .symbols .now) (l .i) 0)) in
+    ap₂ (λ x y. bits (l .n + c .marks .result) (x + y) ++ r) (shifted c .0) (c .before .before .gather-byte .ensures)
+    ∙ ap (λ k. bits (l .n + k) (l .held % 256 * 2 ^ k + number g) ++ r) (c .marks .ensures)
+    ∙ gather-turn (a .mask .now) (a .symbols .now) (l .i) (l .j) (l .n) (l .held) (search needs) (s .pre .0 .1) (omega arith) (l .inv .5)
 
 loop-again : tie.Need-loop-again Inv-loop μ-loop
 loop-again c =
-    let s = c .before .before .before .before .before .before .before in
-    let m = unpack (s .args .mask .now) in
-    let u = unpack (s .args .symbols .now) in
-    let k = 8 * length (s .args .payload .now) in
-    let g = pad k (gather m u) in
-    let i = c .before .before .before .loop .i in
-    let inv = c .before .before .before .loop .inv in
-    let h : i < length m = omega (arith, length-unpack (s .args .mask .now)) in
+    let s = c .before .before .before .before .before .before .before .before .before .before .before .before .before in
+    let a = s .args in
+    let l = c .before .before .before .before .before .before .before .before .before .loop in
+    let inv = l .inv in
+    let g = all (a .mask .now) (a .symbols .now) in
+    let f = filled (byteAt g) in
+    let k = c .before .marks .result in
+    let x : ℕ = l .held % 256 * 2 ^ k % 2 ^ 32 + c .before .before .before .gather-byte .result in
+    let r = gather (unpack (drop (l .i + 1) (a .mask .now))) (unpack (drop (l .i + 1) (a .symbols .now))) in
+    let t = turned (c .before) in
+    let o : 8 * l .j + l .n + k + ones (unpack (drop (l .i + 1) (a .mask .now))) ≡ ones (unpack (a .mask .now)) =
+    omega (arith, inv .3, c .before .marks .ensures, ones-next (a .mask .now) (l .i) (search needs)) in
+    let k8 = few (c .before) in
     ⊎-elim
     (λ w.
-    let e : bit m i ≡ true = sym (c .before .bit .ensures) ∙ w .0 .taken in
-    let next = filled (record { before = record { before = record { before = c .before; if1 = w .0 }; bit2 = w .1 }; if2 = w .2 }) in (
+    let z : ℕ = x / 2 ^ (l .n + k - 8) % 256 in
+    let st = gather-store g r (l .j) (l .n + k) x (w .0 .taken) t in
+    let rm = room (record { before = c .before; if1 = w .0 }) in (
+      search needs,
       omega arith,
-      ap length (w .3) ∙ next .0,
-      ap unpack (w .3) ∙ next .1 ∙ ap (λ n. upTo n g) (sym (w .4)),
-      w .4 ∙ ap (λ n. n + 1) (inv .3) ∙ sym (ones-marked m i h e),
+      ap length (w .1) ∙ length-set (l .payload) (l .j) z ∙ inv .2,
       omega arith,
+      w .1 ∙ ap (λ p. set p (l .j) z) (inv .4) ∙ fill-next (byteAt g) (l .j) (a .payload .now) z (omega arith) (st .0) ∙ ap (λ n. f n (a .payload .now)) (sym (w .2)),
+      ap (λ n. bits n x ++ r) (w .3) ∙ st .1 ∙ ap (λ n. drop (8 * n) g) (sym (w .2)),
     ))
-    (λ w.
-    let e : bit m i ≡ false = sym (c .before .bit .ensures) ∙ w .0 .left in (
+    (λ w. (
+      search needs,
       omega arith,
-      ap length (w .1) ∙ inv .1,
-      ap unpack (w .1) ∙ inv .2 ∙ ap (λ n. upTo n g) (sym (w .2)),
-      w .2 ∙ inv .3 ∙ sym (ones-unmarked m i h e),
+      ap length (w .1) ∙ inv .2,
       omega arith,
+      w .1 ∙ inv .4 ∙ ap (λ n. f n (a .payload .now)) (sym (w .2)),
+      ap (λ n. bits n x ++ r) (w .3) ∙ t ∙ ap (λ n. drop (8 * n) g) (sym (w .2)),
     ))
     (c .if1 .came)
 
@@ -117,16 +176,16 @@ same-length : tie.Need-same-length Inv-loop μ-loop
 same-length c = search needs
 
 returns : tie.Need-returns Inv-loop μ-loop
+unfolding ones unpack
 returns c =
-    let s = c .before .before .before .before .before in
-    let m = unpack (s .args .mask .now) in
-    let u = unpack (s .args .symbols .now) in
-    let k = 8 * length (s .args .payload .now) in
-    let inv = c .before .loop .inv in
-    let e : c .before .loop .i ≡ length m = omega (arith, length-unpack (s .args .mask .now)) in
-    let f : c .before .loop .j ≡ length (gather m u) =
-    inv .3 ∙ ap (λ n. ones (take n m)) e ∙ ap ones (take-length m) ∙ sym (length-gather m u) in
-    inv .2 ∙ ap (λ n. upTo n (pad k (gather m u))) f ∙ up-to-pad k (gather m u)
+    let a = c .before .before .before .before .before .args in
+    let l = c .before .loop in
+    let m = a .mask .now in
+    let g = all m (a .symbols .now) in
+    let i : l .i ≡ length m = search needs in
+    let o = ap (λ k. ones (unpack (drop k m))) i ∙ ap (λ t. ones (unpack t)) (drop-length m) in
+    let e : l .j ≡ ones (unpack m) / 8 = omega (arith, l .inv .3) in
+    l .inv .4 ∙ ap (λ k. filled (byteAt g) k (a .payload .now)) e ∙ ap (λ t. t ++ drop (ones (unpack m) / 8) (a .payload .now)) (sym (pack-bytes (ones (unpack m) / 8) g))
 
 pub gather-spec : {M : Type 1} → statement M
 gather-spec =
@@ -134,11 +193,20 @@ gather-spec =
     (tie.spec
     Inv-loop
     μ-loop
-    mul-n
     loop-holds
-    bit-requires
-    bit-requires-2
-    set-bit-requires
+    shared-slice-read-m
+    shared-slice-read-gather-byte
+    gather-byte-requires
+    marks-requires
+    cast-held
+    shl-held
+    cast-held-2
+    add-held
+    add-n
+    cast-payload
+    shr-payload
+    cast-payload-2
+    slice-write-payload
     add-j
     add-i
     loop-less

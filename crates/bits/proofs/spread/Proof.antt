@@ -1,60 +1,66 @@
--- `bits::spread` meets its contract. Invariant: the first i symbols are written, and j is how many of the phases passed are marked. Assumes nothing.
-use mathlib.Core.Path.{_≡_, refl, sym, _∙_, ap}
-use mathlib.Core.Bool.{true, false, _&&_}
-use mathlib.Core.Logic.{⊎-elim}
-use Prim.Native.Nat.{ℕ, _≤_, _<_, _-_, _+_}
+-- `bits::spread` meets its contract: the first i bytes are stored, and the rest of the symbols come from the bytes and the payload bits that are left. Assumes nothing.
+use mathlib.Core.Path.{_≡_, refl, sym, ap, _∙_}
+use mathlib.Core.Bool.{Bool}
+use mathlib.Core.List.{List}
+use Prim.Native.Nat.{ℕ, _+_, _-_, _*_, _≤_, _<_}
 use native.Mathlib.Omega.{arith}
 use borrow.Author.Needs.{needs}
-use lib.ListN.{length, take, set, length-replicate}
-use Rattle.base.specs.Bit.{bit}
-use Rattle.bits.specs.Packed.{unpack}
+use lib.ListN.{length, drop, set}
+use Rattle.base.specs.Bit.{tabulate}
+use Rattle.base.proofs.List.{filled, fill-next, fill-all}
+use Rattle.bits.specs.Packed.{bits, number, unpack}
 use Rattle.bits.specs.Payload.{ones, spread}
-use Rattle.bits.proofs.Packed.{length-unpack}
-use Rattle.bits.proofs.Payload.{upTo, up-to-none, up-to-all, up-to-set, up-to-skip, length-spread, spread-at, ones-take-lt, ones-marked, ones-unmarked}
+use Rattle.bits.specs.Tables.{onesTable, spreadTable}
+use Rattle.bits.proofs.Packed.{length-unpack, byteAt, pack-bytes, unpack-pack}
+use Rattle.bits.proofs.Payload.{ones-le, ones-next, length-spread}
+use Rattle.bits.proofs.Turns.{spread-turn}
 use Rattle.bits.proofs.spread.Statement.{statement}
 use Rattle.bits.proofs.spread.Tie as tie
 
+-- All the symbols.
+abbrev all : List ℕ → List ℕ → List Bool
+all mask payload = spread (unpack mask) (unpack payload)
+
 abbrev Inv-loop : tie.InvT-loop
-Inv-loop mask payload symbols₀ n i₀ j₀ symbols i j =
-    (i ≤ n) × (length symbols ≡ length symbols₀) × (unpack symbols ≡ upTo i (spread (unpack mask) (unpack payload)))
-    × (j ≡ ones (take i (unpack mask))) × (j ≤ i)
+Inv-loop mask payload symbols₀ counts table i₀ j₀ symbols i j =
+    (i ≤ length mask) × (length symbols ≡ length symbols₀) × (j + ones (unpack (drop i mask)) ≡ ones (unpack mask))
+    × (symbols ≡ filled (byteAt (all mask payload)) i symbols₀)
+    × (spread (unpack (drop i mask)) (drop j (unpack payload)) ≡ drop (8 * i) (all mask payload))
 
 abbrev μ-loop : tie.MeasureT-loop
-μ-loop mask payload symbols₀ n i₀ j₀ symbols i j = n - i
-
-mul-n : tie.Need-mul-n Inv-loop μ-loop
-mul-n c = search needs
+μ-loop mask payload symbols₀ counts table i₀ j₀ symbols i j = length mask - i
 
 loop-holds : tie.Need-loop-holds Inv-loop μ-loop
-unfolding ones
-loop-holds c =
-    let s = c .before .before .before in
-    let m = unpack (s .args .mask .now) in
-    let p = unpack (s .args .payload .now) in (
-      search needs,
-      refl,
-      ap unpack (s .pre .1 .1) ∙ up-to-none (length (s .args .mask .now)) (spread m p) (length-spread m p ∙ length-unpack (s .args .mask .now)),
-      refl,
-      search needs,
-    )
+unfolding tabulate
+loop-holds c = (search needs, refl, omega arith, refl, refl)
 
-bit-requires : tie.Need-bit-requires Inv-loop μ-loop
-bit-requires c κs = search needs
+shared-slice-read-m : tie.Need-shared-slice-read-m Inv-loop μ-loop
+shared-slice-read-m c = search needs
 
-bit-requires-2 : tie.Need-bit-requires-2 Inv-loop μ-loop
-bit-requires-2 c κs =
-    let s = c .before .before .before .before .before .before .before in
-    let m = unpack (s .args .mask .now) in
-    let l = c .before .before .before .loop in
-    omega (arith, ones-take-lt m (l .i) (sym (c .before .bit .ensures) ∙ c .if1 .taken), s .pre .1 .0, l .inv .3)
+next-byte-requires : tie.Need-next-byte-requires Inv-loop μ-loop
+next-byte-requires c κs =
+    let s = c .before .before .before .before .before .before .args .mask .now in
+    omega (arith, c .before .before .loop .inv .2, ones-le (unpack s), length-unpack s)
 
-set-bit-requires : tie.Need-set-bit-requires Inv-loop μ-loop
-set-bit-requires c κs =
-    let s = c .before .before .before .before .before .before .before .before .before .before in
-    omega (arith, ap length (s .pre .1 .1), length-replicate {A = ℕ} (length (s .args .mask .now)) 0)
+spread-byte-requires : tie.Need-spread-byte-requires Inv-loop μ-loop
+unfolding onesTable spreadTable tabulate bits number ones spread
+spread-byte-requires c κs = (refl, refl)
+
+slice-write-symbols : tie.Need-slice-write-symbols Inv-loop μ-loop
+slice-write-symbols c = search needs
+
+marks-requires : tie.Need-marks-requires Inv-loop μ-loop
+unfolding onesTable tabulate bits ones
+marks-requires c κs = refl
+
+cast-j : tie.Need-cast-j Inv-loop μ-loop
+cast-j c = omega (arith, c .marks .ok)
 
 add-j : tie.Need-add-j Inv-loop μ-loop
-add-j c = search needs
+add-j c =
+    let b = c .before .before .before .before .before .before .before .before in
+    let s = b .before .before .before .before .args .mask .now in
+    omega (arith, b .loop .inv .2, ones-le (unpack s), length-unpack s, c .marks .ok)
 
 add-i : tie.Need-add-i Inv-loop μ-loop
 add-i c = search needs
@@ -62,54 +68,21 @@ add-i c = search needs
 loop-less : tie.Need-loop-less Inv-loop μ-loop
 loop-less c = search needs
 
--- The symbols after a marked phase.
-filled : (c : tie.Joined2 Inv-loop μ-loop) →
-    let s = c .before .before .before .before .before .before .before .before .before in
-    (length (c .if2 .symbols) ≡ length (s .args .symbols .now))
-    × (unpack (c .if2 .symbols) ≡ upTo (c .before .before .before .before .before .loop .i + 1) (spread (unpack (s .args .mask .now)) (unpack (s .args .payload .now))))
-filled c =
-    let s = c .before .before .before .before .before .before .before .before .before in
-    let m = unpack (s .args .mask .now) in
-    let p = unpack (s .args .payload .now) in
-    let l = c .before .before .before .before .before .loop in
-    let q : bit (spread m p) (l .i) ≡ c .before .bit2 .result =
-    spread-at m p (l .i) ∙ ap (λ b. b && bit p (ones (take (l .i) m))) (sym (c .before .before .before .bit .ensures) ∙ c .before .before .if1 .taken)
-    ∙ ap (bit p) (sym (l .inv .3)) ∙ sym (c .before .bit2 .ensures) in
-    ⊎-elim
-    (λ v. (
-      omega (arith, ap length (v .5), v .2 .kept .0, l .inv .1),
-      ap unpack (v .5) ∙ v .2 .ensures ∙ ap (λ t. set t (l .i) true) (l .inv .2) ∙ up-to-set (l .i) (spread m p) (q ∙ v .0 .taken),
-    ))
-    (λ v. (ap length (v .1) ∙ l .inv .1, ap unpack (v .1) ∙ l .inv .2 ∙ up-to-skip (l .i) (spread m p) (q ∙ v .0 .left)))
-    (c .if2 .came)
-
 loop-again : tie.Need-loop-again Inv-loop μ-loop
 loop-again c =
-    let s = c .before .before .before .before .before .before .before in
-    let m = unpack (s .args .mask .now) in
-    let p = unpack (s .args .payload .now) in
-    let i = c .before .before .before .loop .i in
-    let inv = c .before .before .before .loop .inv in
-    let h : i < length m = omega (arith, length-unpack (s .args .mask .now)) in
-    ⊎-elim
-    (λ w.
-    let e : bit m i ≡ true = sym (c .before .bit .ensures) ∙ w .0 .taken in
-    let next = filled (record { before = record { before = record { before = c .before; if1 = w .0 }; bit2 = w .1 }; if2 = w .2 }) in (
-      omega arith,
-      ap length (w .3) ∙ next .0,
-      ap unpack (w .3) ∙ next .1,
-      w .4 ∙ ap (λ n. n + 1) (inv .3) ∙ sym (ones-marked m i h e),
-      omega arith,
-    ))
-    (λ w.
-    let e : bit m i ≡ false = sym (c .before .bit .ensures) ∙ w .0 .left in (
-      omega arith,
-      ap length (w .1) ∙ inv .1,
-      ap unpack (w .1) ∙ inv .2 ∙ up-to-skip i (spread m p) (spread-at m p i ∙ ap (λ b. b && bit p (ones (take i m))) e),
-      w .2 ∙ inv .3 ∙ sym (ones-unmarked m i h e),
-      omega arith,
-    ))
-    (c .if1 .came)
+    let s = c .before .before .before .before .before .before .before .before .before .before .before .before in
+    let a = s .args in
+    let l = c .before .before .before .before .before .before .before .before .loop in
+    let g = all (a .mask .now) (a .payload .now) in
+    let z = c .before .before .spread-byte .result in
+    let h : l .i < length (a .mask .now) = search needs in
+    let turn = spread-turn (a .mask .now) (a .payload .now) (l .i) (l .j) _ h (c .before .before .before .before .before .next-byte .ensures) (l .inv .4) in (
+      search needs,
+      search needs,
+      omega (arith, c .marks .ensures, l .inv .2, ones-next (a .mask .now) (l .i) h),
+      ap (λ o. set o (l .i) z) (l .inv .3) ∙ fill-next (byteAt g) (l .i) (a .symbols .now) z (omega (arith, s .pre .1 .1)) (c .before .before .spread-byte .ensures ∙ turn .0),
+      ap (λ n. spread (unpack (drop (l .i + 1) (a .mask .now))) (drop (l .j + n) (unpack (a .payload .now)))) (c .marks .ensures) ∙ turn .1,
+    )
 
 same-length : tie.Need-same-length Inv-loop μ-loop
 same-length c = search needs
@@ -117,10 +90,14 @@ same-length c = search needs
 returns : tie.Need-returns Inv-loop μ-loop
 returns c =
     let s = c .before .before .before .before .before in
-    let m = unpack (s .args .mask .now) in
-    let p = unpack (s .args .payload .now) in
-    c .before .loop .inv .2
-    ∙ up-to-all (c .before .loop .i) (spread m p) (omega (arith, length-spread m p, length-unpack (s .args .mask .now)))
+    let a = s .args in
+    let l = c .before .loop in
+    let n = length (a .mask .now) in
+    let g = all (a .mask .now) (a .payload .now) in
+    let e : l .i ≡ n = search needs in
+    ap unpack
+    (l .inv .3 ∙ ap (λ k. filled (byteAt g) k (a .symbols .now)) e ∙ fill-all (byteAt g) n (a .symbols .now) (s .pre .1 .1) ∙ sym (pack-bytes n g))
+    ∙ unpack-pack n g (length-spread (unpack (a .mask .now)) (unpack (a .payload .now)) ∙ length-unpack (a .mask .now))
 
 pub spread-spec : {M : Type 1} → statement M
 spread-spec =
@@ -128,11 +105,13 @@ spread-spec =
     (tie.spec
     Inv-loop
     μ-loop
-    mul-n
     loop-holds
-    bit-requires
-    bit-requires-2
-    set-bit-requires
+    shared-slice-read-m
+    next-byte-requires
+    spread-byte-requires
+    slice-write-symbols
+    marks-requires
+    cast-j
     add-j
     add-i
     loop-less
