@@ -1,7 +1,7 @@
 -- Every starred case holds: one computed test over the table, and what it shows of each case. Assumes nothing.
 use mathlib.Core.Path.{_≡_, refl, sym, ap, ap₂, _∙_}
 use mathlib.Core.Bool.{Bool, true, false, _&&_, and-eq-true-iff, false≢true}
-use mathlib.Core.List.{List, [], _∷_, append-nil}
+use mathlib.Core.List.{List, [], _∷_, _++_, append-nil}
 use Prim.Native.Nat.{ℕ}
 use native.Mathlib.Omega.{arith}
 use borrow.Author.Tests.{eqb-true}
@@ -9,8 +9,8 @@ use lib.Dec.{eqb}
 use lib.IntN.{ℤ, pos, negsuc}
 use lib.ListN.{getD, replicate}
 use Rattle.base.specs.Bit.{tabulate, parity, every}
-use Rattle.bits.specs.Packed.{bits, number}
-use Rattle.bits.proofs.Packed.{length-bits}
+use Rattle.bits.specs.Packed.{bits, number, unpack, pack}
+use Rattle.bits.proofs.Packed.{length-bits, unpack-pack}
 use Rattle.answer.specs.Verdict.{word, done, isAccepted, settle}
 use Rattle.polar.specs.Code.{channel}
 use Rattle.polar.specs.Kernel.{arikan}
@@ -22,13 +22,16 @@ use Rattle.kernel.specs.Rows.{chosenSum, rowSum, table}
 use Rattle.kernel.specs.Jobs.{isKernel, encoded}
 use Rattle.kernel.proofs.Table.{encoded-rows}
 use Rattle.kernel.proofs.Checks.{kernel-lt, kernel-passed}
+use Rattle.order.specs.Order.{order, among, informationBits, markedPhases}
+use Rattle.order.specs.Jobs.{informationChecks}
+use Rattle.order.proofs.Accepted
 use Rattle.windows.specs.Windows.{windows, solutions}
 use Rattle.follow.specs.Jobs.{followChecks}
 use Rattle.follow.proofs.Accepted.{accepted, accepted-job}
 use Rattle.profiles.proofs.Computed.{pathBy, leastBy, scoresBy, scores-by}
-use Rattle.cases.specs.Cases.{Case, encoding, following, Holds, starred, AllHold}
+use Rattle.cases.specs.Cases.{Case, encoding, following, masking, Holds, starred, AllHold}
 
--- Whether two scores are the same, and two lists of them.
+-- Whether two scores are the same.
 unfoldable sameScore : ℤ → ℤ → Bool
 sameScore (pos a) (pos b) = eqb a b
 sameScore (pos a) (negsuc b) = false
@@ -42,26 +45,28 @@ score-eq (pos a) (negsuc b) e = absurd (false≢true e)
 score-eq (negsuc a) (pos b) e = absurd (false≢true e)
 score-eq (negsuc a) (negsuc b) e = ap negsuc (eqb-true a b e)
 
-unfoldable sameScores : List ℤ → List ℤ → Bool
-sameScores [] [] = true
-sameScores [] (y ∷ t) = false
-sameScores (x ∷ s) [] = false
-sameScores (x ∷ s) (y ∷ t) = sameScore x y && sameScores s t
+-- Whether two lists are the same, by a test of their elements.
+unfoldable sameList : {X : Type 0} → (X → X → Bool) → List X → List X → Bool
+sameList f [] [] = true
+sameList f [] (y ∷ t) = false
+sameList f (x ∷ s) [] = false
+sameList f (x ∷ s) (y ∷ t) = f x y && sameList f s t
 
-scores-eq : (s t : List ℤ) → sameScores s t ≡ true → s ≡ t
-unfolding sameScores
-scores-eq [] [] e = refl
-scores-eq [] (y ∷ t) e = absurd (false≢true e)
-scores-eq (x ∷ s) [] e = absurd (false≢true e)
-scores-eq (x ∷ s) (y ∷ t) e =
-    let h = (and-eq-true-iff (sameScore x y) (sameScores s t)) .0 e in
-    ap₂ (λ z (l : List ℤ). z ∷ l) (score-eq x y (h .0)) (scores-eq s t (h .1))
+list-eq : {X : Type 0} (f : X → X → Bool) → ((x y : X) → f x y ≡ true → x ≡ y) → (s t : List X) → sameList f s t ≡ true → s ≡ t
+unfolding sameList
+list-eq f q [] [] e = refl
+list-eq f q [] (y ∷ t) e = absurd (false≢true e)
+list-eq f q (x ∷ s) [] e = absurd (false≢true e)
+list-eq f q (x ∷ s) (y ∷ t) e =
+    let h = (and-eq-true-iff (f x y) (sameList f s t)) .0 e in
+    ap₂ _∷_ (q x y (h .0)) (list-eq f q s t (h .1))
 
 -- What is computed of a case.
 unfoldable test : Case → Bool
 test (encoding k s w) = isKernel k && eqb (rowSum (getD table k []) (number (unit 16 s))) w
 test (following k value scores) =
-    isAccepted (settle (followChecks k (replicate 16 value) 16) done) && sameScores (scoresBy k (channel (replicate 16 value)) (bits 16 0)) scores
+    isAccepted (settle (followChecks k (replicate 16 value) 16) done) && sameList sameScore (scoresBy k (channel (replicate 16 value)) (bits 16 0)) scores
+test (masking p phases) = isAccepted (settle (informationChecks p 32) done) && sameList eqb (markedPhases (informationBits p)) phases
 
 shown : (c : Case) → test c ≡ true → Holds c
 unfolding test
@@ -74,7 +79,13 @@ shown (following k value scores) t =
     let values = replicate 16 value in
     let h = (and-eq-true-iff (isAccepted (settle (followChecks k values 16) done)) _) .0 t in
     let by = scores-by k ((accepted k values 16 (h .0)) .known) (channel values) (bits 16 0) (omega (arith, length-bits 16 0)) in
-    accepted-job k values 0 (replicate 16 (pos 0)) (h .0) (channel values) (λ j b l. refl) scores scores (sym (by ∙ scores-eq _ scores (h .1))) (sym (append-nil scores))
+    accepted-job k values 0 (replicate 16 (pos 0)) (h .0) (channel values) (λ j b l. refl) scores scores (sym (by ∙ list-eq sameScore score-eq _ scores (h .1))) (sym (append-nil scores))
+shown (masking p phases) t =
+    let h = (and-eq-true-iff (isAccepted (settle (informationChecks p 32) done)) _) .0 t in
+    let job = Accepted.accepted-job p (replicate 32 0) (h .0) in
+    let back : unpack (pack 32 (informationBits p) ++ []) ≡ informationBits p =
+    ap unpack (append-nil (pack 32 (informationBits p))) ∙ unpack-pack 32 (informationBits p) (Accepted.length-information p) in
+    (ap (λ r. r .0) job, ap (λ r. markedPhases (unpack (r .1))) job ∙ ap markedPhases back ∙ list-eq eqb eqb-true _ phases (h .1))
 
 unfoldable tests : List Case → Bool
 tests [] = true
@@ -88,5 +99,5 @@ all-shown (c ∷ cs) t =
     (shown c (h .0), all-shown cs (h .1))
 
 pub starred-hold : AllHold starred
-unfolding tests test isKernel chosenSum bits number tabulate parity sameScore sameScores followChecks firstOutside scoresBy leastBy pathBy leastTo windows solutions symbols sumOf folded blocks arikan every
+unfolding tests test isKernel chosenSum bits number tabulate parity sameScore sameList followChecks firstOutside scoresBy leastBy pathBy leastTo windows solutions symbols sumOf folded blocks arikan every informationChecks informationBits markedPhases among order
 starred-hold = all-shown starred refl

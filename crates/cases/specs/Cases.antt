@@ -4,11 +4,13 @@ use mathlib.Core.List.{List, [], _∷_, map}
 use Prim.Native.Nat.{ℕ}
 use lib.IntN.{ℤ, pos}
 use lib.ListN.{replicate}
-use Rattle.bits.specs.Packed.{number}
+use Rattle.bits.specs.Packed.{number, unpack}
 use Rattle.answer.specs.Verdict.{word, done}
 use Rattle.polar.specs.Relation.{unit}
 use Rattle.kernel.specs.Jobs.{kernelEncode}
 use Rattle.kernel.specs.Profiles.{profileTable}
+use Rattle.order.specs.Order.{markedPhases}
+use Rattle.order.specs.Jobs.{informationMask}
 use Rattle.follow.specs.Jobs.{kernelFollow}
 
 -- A case of the table.
@@ -17,11 +19,16 @@ pub data Case : Type 0 where
   encoding : (k s w : ℕ) → Case
   -- Kernel k, all sixteen values the same, symbols 0: the sixteen scores.
   following : (k : ℕ) (value : ℤ) (scores : List ℤ) → Case
+  -- Information mask for p bytes of payload: the phases that it marks.
+  masking : (p : ℕ) (phases : List ℕ) → Case
 
 -- What a case says.
 abbrev pub Holds : Case → Type 0
 Holds (encoding k s w) = kernelEncode k (number (unit 16 s)) ≡ word w
 Holds (following k value scores) = kernelFollow k (replicate 16 value) 0 (replicate 16 (pos 0)) ≡ (done, scores)
+Holds (masking p phases) =
+    let r = informationMask p (replicate 32 0) in
+    (r .0 ≡ done) × (markedPhases (unpack (r .1)) ≡ phases)
 
 -- The table. Where all values are 1, the scores are the profile numbers.
 abbrev pub starred : List Case
@@ -37,6 +44,7 @@ starred =
     ∷ following 0 (pos 0) (replicate 16 (pos 0))
     ∷ following 1 (pos 0) (replicate 16 (pos 0))
     ∷ following 2 (pos 0) (replicate 16 (pos 0))
+    ∷ masking 1 (191 ∷ 223 ∷ 239 ∷ 250 ∷ 251 ∷ 253 ∷ 254 ∷ 255 ∷ [])
     ∷ []
 
 -- Every case of a table holds.

@@ -1,0 +1,4 @@
+pub mod Sorted
+pub mod Order
+pub mod Marks
+pub mod Accepted
