@@ -1,9 +1,9 @@
 -- A verdict is accepted exactly if no listed check holds, else it is the first that holds. Assumes nothing.
-use mathlib.Core.Path.{_≡_, refl, sym}
+use mathlib.Core.Path.{_≡_, refl, sym, ap, _∙_}
 use mathlib.Core.Bool.{Bool, true, false, false≢true}
 use mathlib.Core.List.{List, [], _∷_, _++_}
 use lib.ListN.{length, drop}
-use Rattle.answer.specs.Verdict.{Verdict, done, word, refused, isAccepted, Check, settle, after}
+use Rattle.answer.specs.Verdict.{Verdict, done, word, refused, isAccepted, Check, unless, settle, after}
 
 -- None of the checks holds.
 abbrev pub None : List Check → Type 0
@@ -42,6 +42,22 @@ none-of (c ∷ cs) v a = go (c .holds) refl a (none-of cs v)
         → (isAccepted (settle cs v) ≡ true → None cs) → None (c ∷ cs)
     go true e a ih = absurd (false≢true a)
     go false e a ih = (e, ih a)
+
+-- Checks after checks.
+pub settle-append : (cs ds : List Check) (v : Verdict) → settle (cs ++ ds) v ≡ settle cs (settle ds v)
+settle-append [] ds v = refl
+settle-append (c ∷ cs) ds v = ap (unless c) (settle-append cs ds v)
+
+-- Where some check holds, it does not matter what would be answered without.
+pub settle-stopped : (cs : List Check) (v w : Verdict) → isAccepted v ≡ true → isAccepted (settle cs v) ≡ false → settle cs w ≡ settle cs v
+settle-stopped [] v w a r = absurd (false≢true (sym r ∙ a))
+settle-stopped (c ∷ cs) v w a r = go (c .holds) r (settle-stopped cs v w a)
+  where
+    go : (b : Bool) → isAccepted (elim b [ true ↦ refused (c .number) (c .place) | false ↦ settle cs v ]) ≡ false
+        → (isAccepted (settle cs v) ≡ false → settle cs w ≡ settle cs v)
+        → _≡_ {A = Verdict} (elim b [ true ↦ refused (c .number) (c .place) | false ↦ settle cs w ]) (elim b [ true ↦ refused (c .number) (c .place) | false ↦ settle cs v ])
+    go true r ih = refl
+    go false r ih = ih r
 
 -- A refusal leaves every buffer as it was.
 pub after-refused {ℓ} : {X : Type ℓ} (v : Verdict) (old new : List X) → isAccepted v ≡ false → after v old new ≡ old
