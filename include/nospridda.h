@@ -2,7 +2,10 @@
  * Nospridda: the jobs of the link, for C.
  *
  * Kernels are numbered 0, 1 and 2. Sixteen symbols or bits stand in one
- * number, index 0 in the most significant bit.
+ * number, index 0 in the most significant bit. A frame has an inner and an
+ * outer kernel and 256 symbols; its symbols, words, masks and payloads are
+ * bytes, eight bits each, index 0 in the most significant bit of the first. A
+ * mask marks the information phases: k of them take a payload of k/8 bytes.
  *
  * Every job answers with a number. 0 says that it was accepted; 1 to 9 is the
  * first condition that held, in checking order, and the job did nothing else.
@@ -67,6 +70,38 @@ struct nospridda_outcome nospridda_kernel_follow(
     const int16_t *values, size_t values_length,
     uint16_t symbols,
     int16_t *scores, size_t scores_length);
+
+/* Frame encode: the word (32 bytes) of a payload of k/8 bytes. Refused by
+ * condition 1, 2 (a mask that is not 32 bytes), 3, 4 or 5 (fewer than 32 bytes
+ * for the word). */
+struct nospridda_outcome nospridda_frame_encode(
+    uint8_t inner, uint8_t outer,
+    const uint8_t *mask, size_t mask_length,
+    const uint8_t *payload, size_t payload_length,
+    uint8_t *word, size_t word_length);
+
+/* Frame undo: the payload (k/8 bytes) of a word. Refused by condition 1, 2 (a
+ * mask or a word that is not 32 bytes), 3, 5 (fewer than k/8 bytes for the
+ * payload) or 9. */
+struct nospridda_outcome nospridda_frame_undo(
+    uint8_t inner, uint8_t outer,
+    const uint8_t *mask, size_t mask_length,
+    const uint8_t *word, size_t word_length,
+    uint8_t *payload, size_t payload_length);
+
+/* Payload part: how many of a buffer's first bytes hold the payload, k/8 of
+ * exactly 32; 0 for a buffer of another length, a mask that is not 32 bytes,
+ * or one that is refused by condition 3. */
+size_t nospridda_part_length(
+    const uint8_t *mask, size_t mask_length,
+    size_t length);
+
+/* Information mask: the mask (32 bytes) for a payload of p bytes, 1 to 32, with
+ * kernel 2 as inner and outer kernel. Refused by condition 5 (fewer than 32
+ * bytes for the mask) or 8. */
+struct nospridda_outcome nospridda_information_mask(
+    size_t p,
+    uint8_t *mask, size_t mask_length);
 
 #ifdef __cplusplus
 }

@@ -4,7 +4,9 @@ use std::process::ExitCode;
 use std::thread;
 use std::time::Instant;
 
-use crate::library::{kernel_encode, kernel_follow, kernel_undo};
+use crate::library::{
+    frame_encode, frame_undo, information_mask, kernel_encode, kernel_follow, kernel_undo,
+};
 use crate::paper::Kernel;
 use crate::random::Random;
 use crate::scores::{pay, scores, totals, Values};
@@ -12,21 +14,44 @@ use crate::scores::{pay, scores, totals, Values};
 /// How many different inputs a job is timed on, one after another.
 const INPUTS: usize = 256;
 
-/// The inputs of all jobs.
+/// The bytes of a frame's payload: k = 128.
+const PAYLOAD: usize = 16;
+
+/// The inputs of all jobs. A frame job is timed on the pair of one kernel twice.
 struct Inputs {
     words: Vec<u16>,
     values: Vec<Values>,
+    mask: [u8; 32],
+    payloads: Vec<[u8; PAYLOAD]>,
 }
 
 impl Inputs {
     fn new() -> Inputs {
         let mut random = Random::new(2);
+        let mut mask = [0; 32];
+        information_mask(PAYLOAD, &mut mask);
         Inputs {
             words: (0..INPUTS).map(|i| (i * 40503 % 65536) as u16).collect(),
             values: (0..INPUTS)
                 .map(|_| std::array::from_fn(|_| random.between(-2047, 2047)))
                 .collect(),
+            mask,
+            payloads: (0..INPUTS)
+                .map(|_| std::array::from_fn(|_| random.word() as u8))
+                .collect(),
         }
+    }
+
+    /// The words of all payloads.
+    fn frames(&self, kernel: u8) -> Vec<[u8; 32]> {
+        self.payloads
+            .iter()
+            .map(|payload| {
+                let mut word = [0; 32];
+                frame_encode(kernel, kernel, &self.mask, payload, &mut word);
+                word
+            })
+            .collect()
     }
 
     /// Calls a job `count` times.
@@ -54,6 +79,23 @@ impl Inputs {
                     black_box(&mut scores);
                 });
             }
+            "frame-encode" => {
+                let mut word = [0; 32];
+                self.each(count, |i| {
+                    let payload = &self.payloads[i];
+                    black_box(frame_encode(kernel, kernel, &self.mask, payload, &mut word));
+                    black_box(&mut word);
+                });
+            }
+            "frame-undo" => {
+                let frames = self.frames(kernel);
+                let mut payload = [0; PAYLOAD];
+                self.each(count, |i| {
+                    let word = &frames[i];
+                    black_box(frame_undo(kernel, kernel, &self.mask, word, &mut payload));
+                    black_box(&mut payload);
+                });
+            }
             _ => return false,
         }
         true
@@ -66,7 +108,7 @@ impl Inputs {
     }
 }
 
-const JOBS: [&str; 3] = ["encode", "undo", "follow"];
+const JOBS: [&str; 5] = ["encode", "undo", "follow", "frame-encode", "frame-undo"];
 
 /// Nanoseconds of one call: the least of nine rounds.
 fn nanoseconds(calls: u64, round: impl Fn()) -> f64 {
@@ -85,7 +127,10 @@ pub fn times() -> ExitCode {
     println!("job kernel ns sweep-ns");
     for job in JOBS {
         for kernel in 0..3 {
-            let calls = if job == "follow" { 10_000 } else { 1_000_000 };
+            let calls = match job {
+                "encode" | "undo" => 1_000_000,
+                _ => 10_000,
+            };
             let library = nanoseconds(calls, || {
                 inputs.run(job, kernel, calls);
             });

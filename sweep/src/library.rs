@@ -28,6 +28,28 @@ extern "C" {
         scores: *mut i16,
         scores_length: usize,
     ) -> Outcome;
+    fn nospridda_frame_encode(
+        inner: u8,
+        outer: u8,
+        mask: *const u8,
+        mask_length: usize,
+        payload: *const u8,
+        payload_length: usize,
+        word: *mut u8,
+        word_length: usize,
+    ) -> Outcome;
+    fn nospridda_frame_undo(
+        inner: u8,
+        outer: u8,
+        mask: *const u8,
+        mask_length: usize,
+        word: *const u8,
+        word_length: usize,
+        payload: *mut u8,
+        payload_length: usize,
+    ) -> Outcome;
+    fn nospridda_part_length(mask: *const u8, mask_length: usize, length: usize) -> usize;
+    fn nospridda_information_mask(p: usize, mask: *mut u8, mask_length: usize) -> Outcome;
 }
 
 pub fn kernel_encode(kernel: u8, symbols: u16) -> WordOutcome {
@@ -52,4 +74,46 @@ pub fn kernel_follow(kernel: u8, values: &[i16], symbols: u16, scores: &mut [i16
             scores.len(),
         )
     }
+}
+
+pub fn frame_encode(inner: u8, outer: u8, mask: &[u8], payload: &[u8], word: &mut [u8]) -> Outcome {
+    // Safe for every input, as with kernel follow.
+    unsafe {
+        nospridda_frame_encode(
+            inner,
+            outer,
+            mask.as_ptr(),
+            mask.len(),
+            payload.as_ptr(),
+            payload.len(),
+            word.as_mut_ptr(),
+            word.len(),
+        )
+    }
+}
+
+pub fn frame_undo(inner: u8, outer: u8, mask: &[u8], word: &[u8], payload: &mut [u8]) -> Outcome {
+    // Safe for every input, as with kernel follow.
+    unsafe {
+        nospridda_frame_undo(
+            inner,
+            outer,
+            mask.as_ptr(),
+            mask.len(),
+            word.as_ptr(),
+            word.len(),
+            payload.as_mut_ptr(),
+            payload.len(),
+        )
+    }
+}
+
+pub fn part_length(mask: &[u8], length: usize) -> usize {
+    // Safe for every input, as with kernel follow.
+    unsafe { nospridda_part_length(mask.as_ptr(), mask.len(), length) }
+}
+
+pub fn information_mask(p: usize, mask: &mut [u8]) -> Outcome {
+    // Safe for every input, as with kernel follow.
+    unsafe { nospridda_information_mask(p, mask.as_mut_ptr(), mask.len()) }
 }

@@ -4,6 +4,8 @@
 //! `sweep bench` prints times; `sweep calls JOB KERNEL COUNT` only makes calls, for a count of instructions.
 mod bench;
 mod follow;
+mod frame;
+mod frames;
 mod kernels;
 mod library;
 mod paper;
@@ -37,6 +39,7 @@ fn sweep() -> ExitCode {
     let all: Vec<Kernel> = (0..3).map(Kernel::new).collect();
     kernels::sweep(&mut tally, &all);
     follow::sweep(&mut tally, &all);
+    frames::sweep(&mut tally, &all);
     if tally.end() {
         ExitCode::SUCCESS
     } else {

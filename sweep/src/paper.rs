@@ -41,6 +41,8 @@ pub struct Kernel {
     pub words: Vec<u16>,
     /// The v of each sixteen symbols.
     pub vs: Vec<u16>,
+    /// The sixteen symbols of each word.
+    symbols: Vec<u16>,
 }
 
 impl Kernel {
@@ -49,6 +51,7 @@ impl Kernel {
             number,
             words: vec![0; 65536],
             vs: vec![0; 65536],
+            symbols: vec![0; 65536],
         };
         let mut met = vec![false; 65536];
         for v in 0..=u16::MAX {
@@ -57,7 +60,15 @@ impl Kernel {
             met[u] = true;
             kernel.words[u] = word_of(v);
             kernel.vs[u] = v;
+            kernel.symbols[usize::from(word_of(v))] = u as u16;
         }
         kernel
+    }
+
+    /// The symbols whose word this is.
+    pub fn symbols_of_word(&self, word: u16) -> u16 {
+        let symbols = self.symbols[usize::from(word)];
+        assert!(self.words[usize::from(symbols)] == word);
+        symbols
     }
 }

@@ -1,6 +1,5 @@
 // Kernel follow at its edges: the ends of the range, every refusal and which of two comes first, and the traps of the paper.
 ghost use Prim.Native.Nat.{_<_};
-use answer::Answer;
 use libc::STDOUT_FILENO;
 
 // What a buffer of twenty scores holds before a job.
@@ -103,37 +102,20 @@ fn say_score(x: i16) {
     io::print_decimal(STDOUT_FILENO, size(x) as u64);
 }
 
-// A label, the number and the place.
-fn say_answer(label: &[u8], a: Answer) {
-    io::write_all(STDOUT_FILENO, label);
-    io::write_all(STDOUT_FILENO, b": ");
-    io::print_decimal(STDOUT_FILENO, answer::number(a) as u64);
-    io::write_all(STDOUT_FILENO, b" ");
-    io::print_decimal(STDOUT_FILENO, answer::place(a) as u64);
-}
-
-fn say_kept(kept: bool) {
-    if kept {
-        io::write_all(STDOUT_FILENO, b", kept\n");
-    } else {
-        io::write_all(STDOUT_FILENO, b", changed\n");
-    }
-}
-
 // A job that is refused, and whether its buffer of twenty is as before.
 fn refuse(label: &[u8], kernel: u8, values: &[i16]) {
     let before = BEFORE;
     let mut scores = BEFORE;
-    say_answer(label, follow::kernel_follow(kernel, values, 0, &mut scores));
-    say_kept(same_from(&scores, &before, 0));
+    report::say_answer(label, follow::kernel_follow(kernel, values, 0, &mut scores));
+    report::say_kept(same_from(&scores, &before, 0));
 }
 
 // The same with a buffer of fifteen.
 fn refuse_short(label: &[u8], kernel: u8, values: &[i16]) {
     let before = SHORT;
     let mut scores = SHORT;
-    say_answer(label, follow::kernel_follow(kernel, values, 0, &mut scores));
-    say_kept(same_from(&scores, &before, 0));
+    report::say_answer(label, follow::kernel_follow(kernel, values, 0, &mut scores));
+    report::say_kept(same_from(&scores, &before, 0));
 }
 
 // Whether a value at a place is refused as out of range, with that place and the buffer as before.
@@ -178,7 +160,7 @@ fn outside(kernel: u8, value: i16) {
 // The last score for symbols 0.
 fn last_score(label: &[u8], kernel: u8, values: [i16; 16]) {
     let mut scores = [0i16; 16];
-    say_answer(
+    report::say_answer(
         label,
         follow::kernel_follow(kernel, &values, 0, &mut scores),
     );
@@ -200,13 +182,13 @@ fn profile(label: &[u8], kernel: u8) {
     let values = [1i16; 16];
     let before = BEFORE;
     let mut scores = BEFORE;
-    say_answer(
+    report::say_answer(
         label,
         follow::kernel_follow(kernel, &values, 0, &mut scores),
     );
     io::write_all(STDOUT_FILENO, b", scores");
     say_scores(scores);
-    say_kept(same_from(&scores, &before, 16));
+    report::say_kept(same_from(&scores, &before, 16));
 }
 
 // The score of one phase.
@@ -214,7 +196,7 @@ fn trap(label: &[u8], kernel: u8, values: [i16; 16], symbols: u16, phase: usize)
     requires { ⌜ phase < 16 ⌝ }
 {
     let mut scores = [0i16; 16];
-    say_answer(
+    report::say_answer(
         label,
         follow::kernel_follow(kernel, &values, symbols, &mut scores),
     );

@@ -2,6 +2,9 @@
 ghost use mathlib.Core.Path.{_≡_};
 ghost use Rattle.answer.specs.Verdict.{verdict};
 ghost use Rattle.kernel.specs.Jobs.{kernelEncode, kernelUndo};
+ghost use Rattle.mask.specs.Mask.{partLength};
+ghost use Rattle.order.specs.Jobs.{informationMask};
+ghost use Rattle.frame.specs.Jobs.{frameEncode, frameUndo};
 ghost use Rattle.follow.specs.Jobs.{kernelFollow};
 ghost use Rattle.link.specs.Outcomes.{outcomeOf, outcomeWith, wordOutcomeOf};
 use answer::Answer;
@@ -57,6 +60,53 @@ pub extern "C" fn nospridda_kernel_undo(kernel: u8, word: u16) -> WordOutcome
     ensures { λ r. ⌜ r ≡ wordOutcomeOf (kernelUndo kernel word) ⌝ }
 {
     word_outcome_of(kernel::kernel_undo(kernel, word))
+}
+
+// Frame encode: the word of a payload at the marked phases.
+#[no_mangle]
+pub extern "C" fn nospridda_frame_encode(
+    inner: u8,
+    outer: u8,
+    mask: &[u8],
+    payload: &[u8],
+    word: &mut [u8],
+) -> Outcome
+    ensures { λ r. ⌜ outcomeWith (frameEncode inner outer (now (mask .entry)) (now (payload .entry)) (now (word .entry))) ≡ (r, now (word .exit)) ⌝ }
+{
+    let a = frame::frame_encode(inner, outer, mask, payload, word);
+    outcome_of(a)
+}
+
+// Frame undo: the payload of a word.
+#[no_mangle]
+pub extern "C" fn nospridda_frame_undo(
+    inner: u8,
+    outer: u8,
+    mask: &[u8],
+    word: &[u8],
+    payload: &mut [u8],
+) -> Outcome
+    ensures { λ r. ⌜ outcomeWith (frameUndo inner outer (now (mask .entry)) (now (word .entry)) (now (payload .entry))) ≡ (r, now (payload .exit)) ⌝ }
+{
+    let a = frame::frame_undo(inner, outer, mask, word, payload);
+    outcome_of(a)
+}
+
+// The length of the payload part of a caller's bytes.
+#[no_mangle]
+pub extern "C" fn nospridda_part_length(mask: &[u8], length: usize) -> usize
+    ensures { λ r. ⌜ r ≡ partLength (now (mask .entry)) length ⌝ }
+{
+    mask::part_length(mask, length)
+}
+
+// Information mask: the mask for p bytes of payload.
+#[no_mangle]
+pub extern "C" fn nospridda_information_mask(p: usize, mask: &mut [u8]) -> Outcome
+    ensures { λ r. ⌜ outcomeWith (informationMask p (now (mask .entry))) ≡ (r, now (mask .exit)) ⌝ }
+{
+    let a = order::information_mask(p, mask);
+    outcome_of(a)
 }
 
 // Kernel follow: the scores of sixteen symbols over sixteen channel values.

@@ -1,16 +1,8 @@
 -- `link::nospridda_kernel_follow` meets its contract: it hands out the outcome of the job's answer. Assumes nothing.
-use mathlib.Core.Path.{_≡_, ap, sym, _∙_}
-use mathlib.Core.List.{List}
-use lib.IntN.{ℤ}
 use borrow.Author.Needs.{needs}
-use Rattle.answer.specs.Verdict.{Verdict}
-use Rattle.link.specs.declared.Outcome.{Outcome}
-use Rattle.link.specs.Outcomes.{outcomeOf, outcomeWith}
+use Rattle.link.proofs.Handed.{handed}
 use Rattle.link.proofs.nospridda_kernel_follow.Statement.{statement}
 use Rattle.link.proofs.nospridda_kernel_follow.Tie as tie
-
-handed : (job : Verdict × List ℤ) (v : Verdict) (x : List ℤ) (o : Outcome) → job ≡ (v, x) → o ≡ outcomeOf v → outcomeWith job ≡ (o, x)
-handed job v x o e f = ap outcomeWith e ∙ ap (λ (p : Outcome). (p, x)) (sym f)
 
 kernel-follow-requires : tie.Need-kernel-follow-requires
 kernel-follow-requires c κs = search needs
