@@ -89,6 +89,33 @@ struct nospridda_outcome nospridda_frame_undo(
     const uint8_t *word, size_t word_length,
     uint8_t *payload, size_t payload_length);
 
+/* Frame follow: 256 channel values, each from -127 to 127 and positive for bit
+ * 0, and 256 symbols (32 bytes) give 256 scores and 256 penalties. The score of
+ * a phase is the best score of the words that begin with the symbols before it
+ * and have 0 next, less that of the words with 1 next; its penalty is what the
+ * best word that begins with the symbols up to and with it pays. Refused by
+ * condition 1, 2 (not 256 values, or symbols that are not 32 bytes), 5 (fewer
+ * than 256 scores or penalties) or 6. */
+struct nospridda_outcome nospridda_frame_follow(
+    uint8_t inner, uint8_t outer,
+    const int8_t *values, size_t values_length,
+    const uint8_t *symbols, size_t symbols_length,
+    int16_t *scores, size_t scores_length,
+    uint16_t *penalties, size_t penalties_length);
+
+/* Frame decode: the same for the decoder's own symbols, and their payload (k/8
+ * bytes). A symbol is 1 at a marked phase whose score is below 0, else 0.
+ * Refused by condition 1, 2 (not 256 values, or a mask that is not 32 bytes),
+ * 3, 5 (fewer than 256 scores or penalties, or fewer than k/8 bytes for the
+ * payload) or 6. */
+struct nospridda_outcome nospridda_frame_decode(
+    uint8_t inner, uint8_t outer,
+    const int8_t *values, size_t values_length,
+    const uint8_t *mask, size_t mask_length,
+    int16_t *scores, size_t scores_length,
+    uint16_t *penalties, size_t penalties_length,
+    uint8_t *payload, size_t payload_length);
+
 /* Payload part: how many of a buffer's first bytes hold the payload, k/8 of
  * exactly 32; 0 for a buffer of another length, a mask that is not 32 bytes,
  * or one that is refused by condition 3. */

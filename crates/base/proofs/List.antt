@@ -5,9 +5,10 @@ use mathlib.Core.List.{List, [], _∷_, _++_, append-nil}
 use Prim.Native.Nat.{ℕ, zero, suc, _+_, _<_}
 use native.Mathlib.Nat.{suc-add, zero-add, suc-inj}
 use native.Mathlib.Numerals.{add-one}
+use native.Mathlib.Decide.{decLt}
 use native.Mathlib.Omega.{arith}
 use lib.ListN.{length, getD, drop, set}
-use lib.Seq.{ext-getD, drop-cons, drop-length, set-at, append-snoc}
+use lib.Seq.{ext-getD, drop-cons, drop-length, set-at, append-snoc, getD-set-same, getD-set-other}
 use Rattle.base.specs.Bit.{_⊕_, bit, tabulate, same, find}
 use Rattle.base.proofs.Bool.{⊕-same, ⊕-self}
 
@@ -52,6 +53,15 @@ fill-next {X = X} f n old z l e =
     ∙ sym (append-snoc (tabulate n f) (f n) (drop (suc n) old))
     ∙ ap (λ (l : List X). l ++ drop (suc n) old) (sym (tabulate-next n f f (λ i _. refl)))
     ∙ ap (λ m. filled f m old) (sym (add-one n))
+
+-- One more entry of which P holds is stored.
+pub each-next : {X : Type 0} (P : ℕ → X → Type 0) (out : List X) (n : ℕ) (d v : X) → n < length out
+    → ((i : ℕ) → i < n → P i (getD out i d)) → P n v → (i : ℕ) → i < n + 1 → P i (getD (set out n v) i d)
+each-next P out n d v l h e i li = go (decLt i n)
+  where
+    go : Dec (i < n) → P i (getD (set out n v) i d)
+    go (yes k) = rw (getD-set-other out n i v d (λ q. omega arith)) (h i k)
+    go (no k) = let q : i ≡ n = omega arith in rw (q, getD-set-same out n v d l) e
 
 -- All of them are stored.
 pub fill-all {ℓ} : {X : Type ℓ} (f : ℕ → X) (n : ℕ) (old : List X) → length old ≡ n → filled f n old ≡ tabulate n f

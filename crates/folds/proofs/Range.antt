@@ -4,6 +4,7 @@ use mathlib.Core.Bool.{Bool, true, false, false≢true}
 use mathlib.Core.List.{List, [], _∷_}
 use Prim.Native.Nat.{ℕ, zero, suc, _+_, _≤_, _<_}
 use native.Mathlib.Numerals.{add-one}
+use native.Mathlib.Decide.{decLt}
 use native.Mathlib.Omega.{arith}
 use borrow.Author.Tests.{ltb-true, ltb-false, lt-leb, le-leb, leb-true, leb-false}
 use lib.Dec.{leb}
@@ -49,6 +50,14 @@ outside-found limit (y ∷ ys) l = go (leb (natAbs y) limit) refl l (outside-fou
     go true t l r = r (omega arith)
     go false t l r = leb-false (natAbs y) limit t
 
+-- Where no value is outside, none is named.
+pub outside-all : (limit : ℕ) (ys : List ℤ) → ((i : ℕ) → i < length ys → natAbs (getD ys i (pos 0)) ≤ limit) → firstOutside limit ys ≡ length ys
+outside-all limit ys h = go (decLt (firstOutside limit ys) (length ys))
+  where
+    go : Dec (firstOutside limit ys < length ys) → firstOutside limit ys ≡ length ys
+    go (yes l) = absurd (omega (arith, outside-found limit ys l, h (firstOutside limit ys) l))
+    go (no l) = omega (arith, outside-le limit ys)
+
 -- Where no value is outside, every one is within the limit.
 pub outside-none : (limit : ℕ) (ys : List ℤ) → firstOutside limit ys ≡ length ys → (i : ℕ) → i < length ys → natAbs (getD ys i (pos 0)) ≤ limit
 outside-none limit ys e i l = outside-lowest limit ys i (omega arith)
@@ -76,32 +85,37 @@ unfolding firstOutside
 is-inside limit y ys t = ap (λ c. elim c [ true ↦ suc (firstOutside limit ys) | false ↦ 0 ]) t
 
 -- The search has passed i values, and goes on in the others.
-abbrev pub Passed : List ℤ → ℕ → Type 0
-Passed ys i = firstOutside 2047 ys ≡ i + firstOutside 2047 (drop i ys)
+abbrev pub Passed : ℕ → List ℤ → ℕ → Type 0
+Passed limit ys i = firstOutside limit ys ≡ i + firstOutside limit (drop i ys)
 
-module _ (ys : List ℤ) (i : ℕ) (h : i < length ys) (e : Passed ys i) where
-  found : leb (natAbs (getD ys i (pos 0))) 2047 ≡ false → i ≡ firstOutside 2047 ys
-  found t = let f = ap (firstOutside 2047) (drop-cons ys i (pos 0) h) ∙ is-outside 2047 (getD ys i (pos 0)) (drop (suc i) ys) t in omega arith
+module _ (limit : ℕ) (ys : List ℤ) (i : ℕ) (h : i < length ys) (e : Passed limit ys i) where
+  -- The search ends at a value outside.
+  pub found : leb (natAbs (getD ys i (pos 0))) limit ≡ false → i ≡ firstOutside limit ys
+  found t = let f = ap (firstOutside limit) (drop-cons ys i (pos 0) h) ∙ is-outside limit (getD ys i (pos 0)) (drop (suc i) ys) t in omega arith
 
-  -- The search ends at a value below the range.
-  pub found-low : ltZ (getD ys i (pos 0)) (negsuc 2046) ≡ true → i ≡ firstOutside 2047 ys
-  found-low t = found (low (getD ys i (pos 0)) t)
-
-  -- The search ends at a value above the range.
-  pub found-high : (k : ℕ) → 2047 ≤ k → ltZ (pos k) (getD ys i (pos 0)) ≡ true → i ≡ firstOutside 2047 ys
-  found-high k l t = found (high k (getD ys i (pos 0)) l t)
-
-  -- The search passes a value that is neither.
-  pub pass : ltZ (getD ys i (pos 0)) (negsuc 2046) ≡ false → ltZ (pos 2047) (getD ys i (pos 0)) ≡ false → Passed ys (i + 1)
-  pass s t =
-      let y = getD ys i (pos 0) in
-      let f = ap (firstOutside 2047) (drop-cons ys i (pos 0) h) ∙ is-inside 2047 y (drop (suc i) ys) (inside y s t) in
+  -- It passes any other.
+  pub passed : leb (natAbs (getD ys i (pos 0))) limit ≡ true → Passed limit ys (i + 1)
+  passed t =
+      let f = ap (firstOutside limit) (drop-cons ys i (pos 0) h) ∙ is-inside limit (getD ys i (pos 0)) (drop (suc i) ys) t in
       rw add-one (omega arith)
 
 -- The search ends at the end of the values.
-pub passed-all : (ys : List ℤ) (i : ℕ) → i ≤ length ys → length ys ≤ i → Passed ys i → i ≡ firstOutside 2047 ys
+pub passed-all : (limit : ℕ) (ys : List ℤ) (i : ℕ) → i ≤ length ys → length ys ≤ i → Passed limit ys i → i ≡ firstOutside limit ys
 unfolding firstOutside
-passed-all ys i p q e =
+passed-all limit ys i p q e =
     let s : i ≡ length ys = omega arith in
-    let f : firstOutside 2047 (drop i ys) ≡ 0 = rw (s, drop-length ys) in
+    let f : firstOutside limit (drop i ys) ≡ 0 = rw (s, drop-length ys) in
     omega arith
+
+module _ (ys : List ℤ) (i : ℕ) (h : i < length ys) (e : Passed 2047 ys i) where
+  -- The search ends at a value below the range.
+  pub found-low : ltZ (getD ys i (pos 0)) (negsuc 2046) ≡ true → i ≡ firstOutside 2047 ys
+  found-low t = found 2047 ys i h e (low (getD ys i (pos 0)) t)
+
+  -- The search ends at a value above the range.
+  pub found-high : (k : ℕ) → 2047 ≤ k → ltZ (pos k) (getD ys i (pos 0)) ≡ true → i ≡ firstOutside 2047 ys
+  found-high k l t = found 2047 ys i h e (high k (getD ys i (pos 0)) l t)
+
+  -- The search passes a value that is neither.
+  pub pass : ltZ (getD ys i (pos 0)) (negsuc 2046) ≡ false → ltZ (pos 2047) (getD ys i (pos 0)) ≡ false → Passed 2047 ys (i + 1)
+  pass s t = passed 2047 ys i h e (inside (getD ys i (pos 0)) s t)

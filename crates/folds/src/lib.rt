@@ -33,7 +33,7 @@ pub fn cost_rows(values: &[i16]) -> [[u32; 16]; 2]
     requires { ⌜ length (now values) ≡ 16 ⌝ }
     requires { ⌜ firstOutside 2047 (now values) ≡ 16 ⌝ }
     ensures costs { λ r. ⌜ ((j : ℕ) (b : Bool) → j < 16 → costsOf r j b ≡ channel (now (values .entry)) j b) ⌝ }
-    ensures within { λ r. ⌜ Within 2047 r ⌝ }
+    ensures within { λ r. ⌜ ((n : ℕ) → firstOutside n (now (values .entry)) ≡ 16 → Within n r) ⌝ }
 {
     let mut out = [[0u32; 16]; 2];
     let mut i: usize = 0;

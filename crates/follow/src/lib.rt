@@ -203,7 +203,7 @@ pub fn difference(rows: &[[i32; 16]; 2], n: usize) -> i32
 }
 
 // The numbers of a kernel's phases.
-fn shapes_of(kernel: usize) -> [[u8; 2]; 16]
+pub fn shapes_of(kernel: usize) -> [[u8; 2]; 16]
     requires { ⌜ kernel < 3 ⌝ }
     ensures { λ r. ⌜ r ≡ getD shapeTable kernel [] ⌝ }
 {
@@ -211,7 +211,7 @@ fn shapes_of(kernel: usize) -> [[u8; 2]; 16]
 }
 
 // The rows of a kernel's phases.
-fn tables_of(kernel: usize) -> [[u16; 16]; 16]
+pub fn tables_of(kernel: usize) -> [[u16; 16]; 16]
     requires { ⌜ kernel < 3 ⌝ }
     ensures { λ r. ⌜ r ≡ getD pathTable kernel [] ⌝ }
 {

@@ -87,21 +87,6 @@ fn same_from(a: &[i16], b: &[i16], from: usize) -> bool {
     true
 }
 
-// How far a number lies from 0.
-fn size(x: i16) -> u32 {
-    let y = x as i32;
-    if y < 0 { (0 - y) as u32 } else { y as u32 }
-}
-
-fn say_score(x: i16) {
-    if x < 0 {
-        io::write_all(STDOUT_FILENO, b" -");
-    } else {
-        io::write_all(STDOUT_FILENO, b" ");
-    }
-    io::print_decimal(STDOUT_FILENO, size(x) as u64);
-}
-
 // A job that is refused, and whether its buffer of twenty is as before.
 fn refuse(label: &[u8], kernel: u8, values: &[i16]) {
     let before = BEFORE;
@@ -151,7 +136,7 @@ fn named(kernel: u8, value: i16) -> u64 {
 
 fn outside(kernel: u8, value: i16) {
     io::write_all(STDOUT_FILENO, b"value");
-    say_score(value);
+    report::say_score(value);
     io::write_all(STDOUT_FILENO, b": 6 with its place and kept, at ");
     io::print_decimal(STDOUT_FILENO, named(kernel, value));
     io::write_all(STDOUT_FILENO, b" of 16 places\n");
@@ -165,14 +150,14 @@ fn last_score(label: &[u8], kernel: u8, values: [i16; 16]) {
         follow::kernel_follow(kernel, &values, 0, &mut scores),
     );
     io::write_all(STDOUT_FILENO, b", score 15:");
-    say_score(scores[15]);
+    report::say_score(scores[15]);
     io::write_all(STDOUT_FILENO, b"\n");
 }
 
 fn say_scores(scores: [i16; 20]) {
     let mut i: usize = 0;
     while i < 16 {
-        say_score(scores[i]);
+        report::say_score(scores[i]);
         i += 1;
     }
 }
@@ -203,7 +188,7 @@ fn trap(label: &[u8], kernel: u8, values: [i16; 16], symbols: u16, phase: usize)
     io::write_all(STDOUT_FILENO, b", score ");
     io::print_decimal(STDOUT_FILENO, phase as u64);
     io::write_all(STDOUT_FILENO, b":");
-    say_score(scores[phase]);
+    report::say_score(scores[phase]);
     io::write_all(STDOUT_FILENO, b"\n");
 }
 

@@ -11,6 +11,14 @@ outcomeOf v = record { number = numberOf v; place = placeOf v }
 abbrev pub outcomeWith : {X : Type 0} → Verdict × X → Outcome × X
 outcomeWith (v, x) = (outcomeOf v, x)
 
+-- The same beside two buffers,
+abbrev pub outcomeWithTwo : {X Y : Type 0} → Verdict × X × Y → Outcome × X × Y
+outcomeWithTwo (v, x, y) = (outcomeOf v, x, y)
+
+-- and beside three.
+abbrev pub outcomeWithThree : {X Y Z : Type 0} → Verdict × X × Y × Z → Outcome × X × Y × Z
+outcomeWithThree (v, x, y, z) = (outcomeOf v, x, y, z)
+
 -- The number, the place and the word of a verdict.
 abbrev pub wordOutcomeOf : Verdict → WordOutcome
 wordOutcomeOf v = record { number = numberOf v; place = placeOf v; word = wordOf v }

@@ -6,7 +6,8 @@ ghost use Rattle.mask.specs.Mask.{partLength};
 ghost use Rattle.order.specs.Jobs.{informationMask};
 ghost use Rattle.frame.specs.Jobs.{frameEncode, frameUndo};
 ghost use Rattle.follow.specs.Jobs.{kernelFollow};
-ghost use Rattle.link.specs.Outcomes.{outcomeOf, outcomeWith, wordOutcomeOf};
+ghost use Rattle.decode.specs.Jobs.{frameFollow, frameDecode};
+ghost use Rattle.link.specs.Outcomes.{outcomeOf, outcomeWith, outcomeWithTwo, outcomeWithThree, wordOutcomeOf};
 use answer::Answer;
 
 // The outcome of a job without a word: the number of the condition that refused it, 0 if accepted, and the place that it names.
@@ -120,5 +121,38 @@ pub extern "C" fn nospridda_kernel_follow(
     ensures { λ r. ⌜ outcomeWith (kernelFollow kernel (now (values .entry)) symbols (now (scores .entry))) ≡ (r, now (scores .exit)) ⌝ }
 {
     let a = follow::kernel_follow(kernel, values, symbols, scores);
+    outcome_of(a)
+}
+
+// Frame follow: the scores and penalties of 256 symbols over 256 channel values.
+#[no_mangle]
+pub extern "C" fn nospridda_frame_follow(
+    inner: u8,
+    outer: u8,
+    values: &[i8],
+    symbols: &[u8],
+    scores: &mut [i16],
+    penalties: &mut [u16],
+) -> Outcome
+    ensures { λ r. ⌜ outcomeWithTwo (frameFollow inner outer (now (values .entry)) (now (symbols .entry)) (now (scores .entry)) (now (penalties .entry))) ≡ (r, now (scores .exit), now (penalties .exit)) ⌝ }
+{
+    let a = decode::frame_follow(inner, outer, values, symbols, scores, penalties);
+    outcome_of(a)
+}
+
+// Frame decode: the scores and penalties of the decoder's own symbols, and its payload.
+#[no_mangle]
+pub extern "C" fn nospridda_frame_decode(
+    inner: u8,
+    outer: u8,
+    values: &[i8],
+    mask: &[u8],
+    scores: &mut [i16],
+    penalties: &mut [u16],
+    payload: &mut [u8],
+) -> Outcome
+    ensures { λ r. ⌜ outcomeWithThree (frameDecode inner outer (now (values .entry)) (now (mask .entry)) (now (scores .entry)) (now (penalties .entry)) (now (payload .entry))) ≡ (r, now (scores .exit), now (penalties .exit), now (payload .exit)) ⌝ }
+{
+    let a = decode::frame_decode(inner, outer, values, mask, scores, penalties, payload);
     outcome_of(a)
 }

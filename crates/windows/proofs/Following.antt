@@ -46,7 +46,7 @@ written out s v g l h e j lj = go (decLt j s)
     go (no d) = let q : j ≡ s = omega arith in rw q (getD-set-same out s v (pos 0) l ∙ e)
 
 -- A bit as the code counts it.
-byte-digit : (b : Bool) → boolByte b ≡ digit b
+pub byte-digit : (b : Bool) → boolByte b ≡ digit b
 byte-digit false = refl
 byte-digit true = refl
 
@@ -62,11 +62,10 @@ module _ (k : ℕ) (lk : k < 3) (costs : List (List ℕ)) (most : Within 2047 co
   range = in-range k s lk ls symbols (getD shapes s []) shape-is
 
   -- The number of paths as the code has it.
-  paths : ℕ
+  abbrev pub paths : ℕ
   paths = 1 * 2 ^ (getD (getD shapes s []) 0 0 - s) % 18446744073709551616
 
-  paths-is : paths ≡ 2 ^ (shapeAt k s 0 - s)
-  unfolding paths
+  pub paths-is : paths ≡ 2 ^ (shapeAt k s 0 - s)
   paths-is = paths-are (getD (getD shapes s []) 0 0 - s) (range .2) ∙ ap (λ l. 2 ^ (getD l 0 0 - s)) shape-is
 
   sized : length (take s (bits 16 symbols)) ≡ s
@@ -75,7 +74,6 @@ module _ (k : ℕ) (lk : k < 3) (costs : List (List ℕ)) (most : Within 2047 co
   module _ (rows : List (List ℤ)) (h : Held k (costsOf costs) (take s (bits 16 symbols)) rows) where
     pub difference-asks : ((0 < 1 * 2 ^ (getD (getD shapes s []) 0 0 - s) % 18446744073709551616) × (1 * 2 ^ (getD (getD shapes s []) 0 0 - s) % 18446744073709551616 ≤ 16))
         × ((w : ℕ) (b : Bool) → w < 1 * 2 ^ (getD (getD shapes s []) 0 0 - s) % 18446744073709551616 → natAbs (cell (pos 0) rows w b) ≤ 16777216)
-    unfolding paths
     difference-asks =
         let e = paths-are (getD (getD shapes s []) 0 0 - s) (range .2) in (
           (rw e (one-le (getD (getD shapes s []) 0 0 - s)), rw e (pow-le (getD (getD shapes s []) 0 0 - s) (range .2))),
@@ -84,7 +82,6 @@ module _ (k : ℕ) (lk : k < 3) (costs : List (List ℕ)) (most : Within 2047 co
 
     pub difference-is : (r : ℤ) → Leads rows (1 * 2 ^ (getD (getD shapes s []) 0 0 - s) % 18446744073709551616) r
         → r ≡ score (kernelCode k) (costsOf costs) (take s (bits 16 symbols))
-    unfolding paths
     difference-is r l = held-score k s lk ls (costsOf costs) (take s (bits 16 symbols)) sized rows h r (rw paths-is at l)
 
     -- A score fits sixteen bits,

@@ -80,7 +80,7 @@ returns c =
     let e : c .before .loop .i ≡ 16 = search needs in
     let p = c .before .before .pre in
     let f = rw e at (c .before .loop .inv .1) in
-    (f .done, filled-within 16 _ _ f 2047 (λ j b l. channel-le 2047 ys (p .1 ∙ sym (p .0)) j b (rw (p .0) l)))
+    (f .done, λ n h. filled-within 16 _ _ f n (λ j b l. channel-le n ys (h ∙ sym (p .0)) j b (rw (p .0) l)))
 
 pub cost-rows-spec : {M : Type 1} → statement M
 cost-rows-spec =

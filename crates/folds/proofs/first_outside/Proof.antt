@@ -11,7 +11,7 @@ use Rattle.folds.proofs.first_outside.Statement.{statement}
 use Rattle.folds.proofs.first_outside.Tie as tie
 
 abbrev Inv-loop : tie.InvT-loop
-Inv-loop values i₀ i = (i ≤ length values) × Passed values i
+Inv-loop values i₀ i = (i ≤ length values) × Passed 2047 values i
 
 abbrev μ-loop : tie.MeasureT-loop
 μ-loop values i₀ i = length values - i
@@ -51,7 +51,7 @@ loop-again c =
     (search needs, pass ys (k .i) (search needs) (k .inv .1) (rw e at (c .before .if1 .left)) (rw e at (c .if2 .left)))
 
 returns-3 : tie.Need-returns-3 Inv-loop μ-loop
-returns-3 c = passed-all (c .before .before .args .values .now) (c .before .loop .i) (c .before .loop .inv .0) (search needs) (c .before .loop .inv .1)
+returns-3 c = passed-all 2047 (c .before .before .args .values .now) (c .before .loop .i) (c .before .loop .inv .0) (search needs) (c .before .loop .inv .1)
 
 pub first-outside-spec : {M : Type 1} → statement M
 first-outside-spec =

@@ -35,7 +35,8 @@ follow-requires c κs =
     let d = e .before .before in
     let a = d .before .args in
     let yes = ap isAccepted (sym (d .follow-check .ensures)) ∙ sym (e .before .accepted .ensures) ∙ not-false _ (e .if1 .left) in
-    ((accepted (a .kernel) (a .values .now) (length (a .scores .now)) yes) .known, c .cost-rows .ensures .1)
+    let k = accepted (a .kernel) (a .values .now) (length (a .scores .now)) yes in
+    (k .known, c .cost-rows .ensures .1 2047 (k .inside))
 
 store-requires : tie.Need-store-requires
 store-requires c κs =

@@ -1,8 +1,8 @@
--- `follow_cases::size` is safe: the size of a number of sixteen bits fits thirty-two. Assumes nothing.
+-- `report::size` is safe: the size of a number of sixteen bits fits thirty-two. Assumes nothing.
 use borrow.Author.Needs.{needs}
 use Rattle.folds.proofs.Signs.{wide-fits, neg-fits, neg-cast, pos-cast}
-use Rattle.follow_cases.proofs.size.Statement.{statement}
-use Rattle.follow_cases.proofs.size.Tie as tie
+use Rattle.report.proofs.size.Statement.{statement}
+use Rattle.report.proofs.size.Tie as tie
 
 cast-y : tie.Need-cast-y
 cast-y c = wide-fits (c .args .x) (c .fits .x .sfits)

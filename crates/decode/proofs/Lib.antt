@@ -1,0 +1,6 @@
+pub mod Layered
+pub mod Fronts
+pub mod Running
+pub mod Asks
+pub mod Accepted
+pub mod Decided

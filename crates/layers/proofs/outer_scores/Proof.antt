@@ -1,0 +1,90 @@
+-- `layers::outer_scores` meets its contract: the first j scores are taken. Assumes nothing.
+use mathlib.Core.Path.{_≡_, refl, subst⁻¹}
+use mathlib.Core.Bool.{Bool}
+use mathlib.Core.List.{List, []}
+use Prim.Native.Nat.{ℕ, _-_, _≤_, _<_}
+use native.Mathlib.Omega.{arith}
+use lib.ListN.{length, getD}
+use Rattle.base.specs.Bit.{bit}
+use Rattle.base.proofs.List.{each-next}
+use Rattle.bits.specs.Packed.{bits, digit}
+use lib.IntN.{ℤ, pos}
+use mir.Facts.{toZ-ofZ}
+use Rattle.windows.specs.Paths.{Leads}
+use Rattle.layers.proofs.Narrow.{narrow}
+use borrow.Author.Needs.{needs}
+use Rattle.layers.proofs.outer_scores.Statement.{statement}
+use Rattle.layers.proofs.outer_scores.Tie as tie
+
+abbrev Inv-loop : tie.InvT-loop
+Inv-loop rows n out₀ j₀ out j = (j ≤ 16) × (length out ≡ 16) × ((i : ℕ) → i < j → Leads (getD rows i []) n (getD out i (pos 0)))
+
+abbrev μ-loop : tie.MeasureT-loop
+μ-loop rows n out₀ j₀ out j = 16 - j
+
+loop-holds : tie.Need-loop-holds Inv-loop μ-loop
+loop-holds c = (search needs, refl, λ i l. absurd (omega arith))
+
+mul-difference : tie.Need-mul-difference Inv-loop μ-loop
+mul-difference c = search needs
+
+index-1-difference : tie.Need-index-1-difference Inv-loop μ-loop
+index-1-difference c = search needs
+
+difference-requires : tie.Need-difference-requires Inv-loop μ-loop
+difference-requires c κs =
+    let p = c .before .before .before .pre in
+    let l : c .before .before .loop .j < 16 = search needs in
+    (p .0, λ w d h. omega (arith, p .1 .0 _ l w d h))
+
+cast-out : tie.Need-cast-out Inv-loop μ-loop
+cast-out c =
+    let p = c .before .before .before .before .pre in
+    let l : c .before .before .before .loop .j < 16 = search needs in
+    rw (toZ-ofZ (record { sfits = c .difference .ok })) (p .1 .1 _ l _ (c .difference .ensures))
+
+mul-out : tie.Need-mul-out Inv-loop μ-loop
+mul-out c = search needs
+
+array-set-from-out : tie.Need-array-set-from-out Inv-loop μ-loop
+array-set-from-out c = search needs
+
+add-j : tie.Need-add-j Inv-loop μ-loop
+add-j c = search needs
+
+loop-less : tie.Need-loop-less Inv-loop μ-loop
+loop-less c = search needs
+
+loop-again : tie.Need-loop-again Inv-loop μ-loop
+loop-again c =
+    let a = c .before .before .before .before .args in
+    let p = c .before .before .before .before .pre in
+    let l = c .before .before .before .loop in
+    let lj : l .j < 16 = search needs in
+    let f = p .1 .1 _ lj _ (c .difference .ensures) in (
+      search needs,
+      search needs,
+      each-next (λ i. Leads (getD (a .rows .now) i []) (a .n)) (l .out) (l .j) (pos 0) _ (search needs) (l .inv .2)
+          (subst⁻¹ (Leads (getD (a .rows .now) (l .j) []) (a .n)) (narrow (c .difference .result) (record { sfits = c .difference .ok }) f) (c .difference .ensures)),
+    )
+
+returns : tie.Need-returns Inv-loop μ-loop
+returns c = λ j l. c .before .loop .inv .2 j (omega arith)
+
+pub outer-scores-spec : {M : Type 1} → statement M
+outer-scores-spec =
+    tie.close
+    (tie.spec
+    Inv-loop
+    μ-loop
+    loop-holds
+    mul-difference
+    index-1-difference
+    difference-requires
+    cast-out
+    mul-out
+    array-set-from-out
+    add-j
+    loop-less
+    loop-again
+    returns)
