@@ -4,8 +4,10 @@ use std::process::ExitCode;
 use std::thread;
 use std::time::Instant;
 
+use crate::frame::bit_of;
 use crate::library::{
-    frame_encode, frame_undo, information_mask, kernel_encode, kernel_follow, kernel_undo,
+    frame_decode, frame_encode, frame_undo, information_mask, kernel_encode, kernel_follow,
+    kernel_undo,
 };
 use crate::paper::Kernel;
 use crate::random::Random;
@@ -96,6 +98,24 @@ impl Inputs {
                     black_box(&mut payload);
                 });
             }
+            "frame-decode" => {
+                let frames = self.frames(kernel);
+                let (mut scores, mut penalties) = ([0; 256], [0; 256]);
+                let mut payload = [0; PAYLOAD];
+                let received: Vec<[i8; 256]> = frames.iter().map(|word| received(word)).collect();
+                self.each(count, |i| {
+                    black_box(frame_decode(
+                        kernel,
+                        kernel,
+                        &received[i],
+                        &self.mask,
+                        &mut scores,
+                        &mut penalties,
+                        &mut payload,
+                    ));
+                    black_box((&mut scores, &mut penalties, &mut payload));
+                });
+            }
             _ => return false,
         }
         true
@@ -108,7 +128,27 @@ impl Inputs {
     }
 }
 
-const JOBS: [&str; 5] = ["encode", "undo", "follow", "frame-encode", "frame-undo"];
+/// The values of a word received with some noise.
+fn received(word: &[u8; 32]) -> [i8; 256] {
+    let mut random = Random::new(u64::from(word[0]));
+    std::array::from_fn(|i| {
+        let y = random.between(-30, 100) as i8;
+        if bit_of(word, i) {
+            -y
+        } else {
+            y
+        }
+    })
+}
+
+const JOBS: [&str; 6] = [
+    "encode",
+    "undo",
+    "follow",
+    "frame-encode",
+    "frame-undo",
+    "frame-decode",
+];
 
 /// Nanoseconds of one call: the least of nine rounds.
 fn nanoseconds(calls: u64, round: impl Fn()) -> f64 {
@@ -129,6 +169,7 @@ pub fn times() -> ExitCode {
         for kernel in 0..3 {
             let calls = match job {
                 "encode" | "undo" => 1_000_000,
+                "frame-decode" => 500,
                 _ => 10_000,
             };
             let library = nanoseconds(calls, || {

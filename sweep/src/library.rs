@@ -48,6 +48,32 @@ extern "C" {
         payload: *mut u8,
         payload_length: usize,
     ) -> Outcome;
+    fn nospridda_frame_follow(
+        inner: u8,
+        outer: u8,
+        values: *const i8,
+        values_length: usize,
+        symbols: *const u8,
+        symbols_length: usize,
+        scores: *mut i16,
+        scores_length: usize,
+        penalties: *mut u16,
+        penalties_length: usize,
+    ) -> Outcome;
+    fn nospridda_frame_decode(
+        inner: u8,
+        outer: u8,
+        values: *const i8,
+        values_length: usize,
+        mask: *const u8,
+        mask_length: usize,
+        scores: *mut i16,
+        scores_length: usize,
+        penalties: *mut u16,
+        penalties_length: usize,
+        payload: *mut u8,
+        payload_length: usize,
+    ) -> Outcome;
     fn nospridda_part_length(mask: *const u8, mask_length: usize, length: usize) -> usize;
     fn nospridda_information_mask(p: usize, mask: *mut u8, mask_length: usize) -> Outcome;
 }
@@ -116,4 +142,57 @@ pub fn part_length(mask: &[u8], length: usize) -> usize {
 pub fn information_mask(p: usize, mask: &mut [u8]) -> Outcome {
     // Safe for every input, as with kernel follow.
     unsafe { nospridda_information_mask(p, mask.as_mut_ptr(), mask.len()) }
+}
+
+pub fn frame_follow(
+    inner: u8,
+    outer: u8,
+    values: &[i8],
+    symbols: &[u8],
+    scores: &mut [i16],
+    penalties: &mut [u16],
+) -> Outcome {
+    // Safe for every input, as with kernel follow.
+    unsafe {
+        nospridda_frame_follow(
+            inner,
+            outer,
+            values.as_ptr(),
+            values.len(),
+            symbols.as_ptr(),
+            symbols.len(),
+            scores.as_mut_ptr(),
+            scores.len(),
+            penalties.as_mut_ptr(),
+            penalties.len(),
+        )
+    }
+}
+
+pub fn frame_decode(
+    inner: u8,
+    outer: u8,
+    values: &[i8],
+    mask: &[u8],
+    scores: &mut [i16],
+    penalties: &mut [u16],
+    payload: &mut [u8],
+) -> Outcome {
+    // Safe for every input, as with kernel follow.
+    unsafe {
+        nospridda_frame_decode(
+            inner,
+            outer,
+            values.as_ptr(),
+            values.len(),
+            mask.as_ptr(),
+            mask.len(),
+            scores.as_mut_ptr(),
+            scores.len(),
+            penalties.as_mut_ptr(),
+            penalties.len(),
+            payload.as_mut_ptr(),
+            payload.len(),
+        )
+    }
 }

@@ -3,10 +3,12 @@
 //!
 //! `sweep bench` prints times; `sweep calls JOB KERNEL COUNT` only makes calls, for a count of instructions.
 mod bench;
+mod decoding;
 mod follow;
 mod frame;
 mod frames;
 mod kernels;
+mod layered;
 mod library;
 mod paper;
 mod random;
@@ -40,6 +42,7 @@ fn sweep() -> ExitCode {
     kernels::sweep(&mut tally, &all);
     follow::sweep(&mut tally, &all);
     frames::sweep(&mut tally, &all);
+    decoding::sweep(&mut tally, &all);
     if tally.end() {
         ExitCode::SUCCESS
     } else {
