@@ -1,6 +1,5 @@
 pub mod Fill
-pub mod Lacking
-pub mod Pairs
+pub mod Fold
 pub mod Range
 pub mod Rows
 pub mod Signs
