@@ -1,5 +1,6 @@
 pub mod Fill
-pub mod Fold
+pub mod Lacking
+pub mod Pairs
 pub mod Range
 pub mod Rows
 pub mod Signs

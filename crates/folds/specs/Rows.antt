@@ -1,6 +1,6 @@
 -- Proof side: two rows of sixteen costs, and the greatest of a row of best scores. Assumes nothing.
 use mathlib.Core.Path.{_≡_}
-use mathlib.Core.Bool.{Bool}
+use mathlib.Core.Bool.{Bool, true, false}
 use mathlib.Core.List.{List, []}
 use Prim.Native.Nat.{ℕ, zero, suc, _≤_, _<_, min}
 use lib.ListN.{getD}
@@ -20,6 +20,14 @@ costsOf rows = cell 0 rows
 -- No place pays more than n.
 abbrev pub Within : ℕ → List (List ℕ) → Type 0
 Within n rows = (j : ℕ) (b : Bool) → costsOf rows j b ≤ n
+
+-- The second of two numbers where the bit is set, else the first.
+abbrev pub two : ℕ → ℕ → Bool → ℕ
+two x y c = elim c [ true ↦ y | false ↦ x ]
+
+-- Place j pays the one for bit 0 and the other for bit 1.
+abbrev pub Pays : Costs → ℕ → ℕ → ℕ → Type 0
+Pays m j x y = (x ≡ m j false) × (y ≡ m j true)
 
 -- r is among the first n scores, and none of them is greater.
 pub record IsGreatest (row : List ℤ) (n : ℕ) (r : ℤ) : Type 0 where

@@ -1,14 +1,15 @@
-// Costs of sixteen places, their folds onto half as many, and rows of best scores.
+// Costs of sixteen places, their folds onto four, and rows of best scores.
 ghost use mathlib.Core.Path.{_≡_};
-ghost use mathlib.Core.Bool.{Bool};
-ghost use Prim.Native.Nat.{ℕ, _+_, _≤_, _<_, min};
+ghost use mathlib.Core.Bool.{Bool, true, false};
+ghost use Prim.Native.Nat.{ℕ, _+_, _-_, _≤_, _<_, min};
+ghost use lib.IntN.{pos, negℤ};
 ghost use lib.ListN.{length};
 ghost use Rattle.base.specs.Bit;
 ghost use Rattle.bits.specs.Packed.{bits};
 ghost use Rattle.polar.specs.Code.{channel};
 ghost use Rattle.polar.specs.Fold.{freeFold, knownFold};
 ghost use Rattle.folds.specs.Range.{firstOutside};
-ghost use Rattle.folds.specs.Rows.{costsOf, Within, IsGreatest};
+ghost use Rattle.folds.specs.Rows.{costsOf, Within, IsGreatest, two, Pays};
 
 // The lowest index whose value lies outside -2047 to 2047, or the number of values.
 pub fn first_outside(values: &[i16]) -> usize
@@ -56,44 +57,190 @@ fn lesser(a: u32, b: u32) -> u32
     if a < b { a } else { b }
 }
 
-// The costs of the first half of the places, the second half being free.
-pub fn fold_free(rows: [[u32; 16]; 2], half: usize) -> [[u32; 16]; 2]
-    requires { ⌜ half ≤ 8 ⌝ }
-    requires { ⌜ Within 16777216 rows ⌝ }
-    ensures folded { λ r. ⌜ ((j : ℕ) (b : Bool) → j < half → costsOf r j b ≡ freeFold half (costsOf rows) j b) ⌝ }
-    ensures within { λ r. ⌜ ((n : ℕ) → Within n rows → Within (n + n) r) ⌝ }
+// The same by their difference, in a form that the compiler turns into vector instructions.
+fn lower(a: u32, b: u32) -> u32
+    requires { ⌜ (a ≤ 33554432) × (b ≤ 33554432) ⌝ }
+    ensures { λ r. ⌜ r ≡ min a b ⌝ }
 {
-    let a = rows[0];
-    let b = rows[1];
-    let mut out = [[0u32; 16]; 2];
+    (b as i32 + short_of(a, b)) as u32
+}
+
+// Minus what a number lacks of another.
+fn short_of(a: u32, b: u32) -> i32
+    requires { ⌜ (a ≤ 33554432) × (b ≤ 33554432) ⌝ }
+    ensures { λ r. ⌜ r ≡ negℤ (pos (b - a)) ⌝ }
+{
+    let d = a as i32 - b as i32;
+    if d < 0 { d } else { 0 }
+}
+
+// Bit i of sixteen.
+pub fn bit_of(x: u32, i: usize) -> bool
+    requires { ⌜ i < 16 ⌝ }
+    ensures { λ r. ⌜ r ≡ Bit.bit (bits 16 x) i ⌝ }
+{
+    (x >> (15 - i)) % 2 == 1
+}
+
+// What a place pays for bit 0 and for bit 1.
+pub struct Pair {
+    pub zero: u32,
+    pub one: u32,
+}
+
+// One of two numbers.
+fn pick(c: bool, x: u32, y: u32) -> u32
+    ensures { λ r. ⌜ r ≡ two x y c ⌝ }
+{
+    if c { y } else { x }
+}
+
+// Two places folded onto one, the first one's bit being known.
+fn known(bit: bool, p: Pair, q: Pair) -> Pair
+    requires { ⌜ (p .zero ≤ 16777216) × (p .one ≤ 16777216) × (q .zero ≤ 16777216) × (q .one ≤ 16777216) ⌝ }
+    ensures { λ r. ⌜ (r .zero ≡ two (p .zero) (p .one) bit + q .zero) × (r .one ≡ two (p .one) (p .zero) bit + q .one) ⌝ }
+{
+    Pair {
+        zero: pick(bit, p.zero, p.one) + q.zero,
+        one: pick(bit, p.one, p.zero) + q.one,
+    }
+}
+
+// Two places folded onto one, the second one's bit being free, for many places side by side.
+fn free(p: Pair, q: Pair) -> Pair
+    requires { ⌜ (p .zero ≤ 16777216) × (p .one ≤ 16777216) × (q .zero ≤ 16777216) × (q .one ≤ 16777216) ⌝ }
+    ensures { λ r. ⌜ (r .zero ≡ min (p .zero + q .zero) (p .one + q .one)) × (r .one ≡ min (p .one + q .zero) (p .zero + q .one)) ⌝ }
+{
+    Pair {
+        zero: lower(p.zero + q.zero, p.one + q.one),
+        one: lower(p.one + q.zero, p.zero + q.one),
+    }
+}
+
+// The same for one place alone.
+fn free_one(p: Pair, q: Pair) -> Pair
+    requires { ⌜ (p .zero ≤ 16777216) × (p .one ≤ 16777216) × (q .zero ≤ 16777216) × (q .one ≤ 16777216) ⌝ }
+    ensures { λ r. ⌜ (r .zero ≡ min (p .zero + q .zero) (p .one + q .one)) × (r .one ≡ min (p .one + q .zero) (p .zero + q .one)) ⌝ }
+{
+    Pair {
+        zero: lesser(p.zero + q.zero, p.one + q.one),
+        one: lesser(p.one + q.zero, p.zero + q.one),
+    }
+}
+
+// Two places folded onto one, where the first one's bit may be known.
+pub fn fold_pair(sure: bool, bit: bool, p: Pair, q: Pair) -> Pair
+    requires { ⌜ (p .zero ≤ 16777216) × (p .one ≤ 16777216) × (q .zero ≤ 16777216) × (q .one ≤ 16777216) ⌝ }
+    ensures { λ r. ⌜ (sure ≡ true → (r .zero ≡ two (p .zero) (p .one) bit + q .zero) × (r .one ≡ two (p .one) (p .zero) bit + q .one)) × (sure ≡ false → (r .zero ≡ min (p .zero + q .zero) (p .one + q .one)) × (r .one ≡ min (p .one + q .zero) (p .zero + q .one))) ⌝ }
+{
+    if sure {
+        known(bit, p, q)
+    } else {
+        free_one(p, q)
+    }
+}
+
+// A place of two rows.
+fn place(rows: &[[u32; 16]; 2], i: usize) -> Pair
+    requires { ⌜ i < 16 ⌝ }
+    ensures { λ r. ⌜ Pays (costsOf (now (rows .entry))) i (r .zero) (r .one) ⌝ }
+{
+    let zero = rows[0][i];
+    let one = rows[1][i];
+    Pair { zero, one }
+}
+
+// Place i of the second half, where the bits of the first half's word stand in word.
+fn known_at(rows: &[[u32; 16]; 2], word: u32, i: usize) -> Pair
+    requires { ⌜ (i < 8) × Within 65536 (now rows) ⌝ }
+    ensures { λ r. ⌜ Pays (knownFold 8 (Bit.bit (bits 16 word)) (costsOf (now (rows .entry)))) i (r .zero) (r .one) ⌝ }
+{
+    known(bit_of(word, i), place(rows, i), place(rows, 8 + i))
+}
+
+// Place i of the first half, the second half being free.
+fn free_at(rows: &[[u32; 16]; 2], i: usize) -> Pair
+    requires { ⌜ (i < 8) × Within 65536 (now rows) ⌝ }
+    ensures { λ r. ⌜ Pays (freeFold 8 (costsOf (now (rows .entry)))) i (r .zero) (r .one) ⌝ }
+{
+    free(place(rows, i), place(rows, 8 + i))
+}
+
+// Two folds of sixteen places, both with the second half free.
+pub fn free_free(rows: &[[u32; 16]; 2]) -> [[u32; 4]; 2]
+    requires { ⌜ Within 65536 (now rows) ⌝ }
+    ensures { λ r. ⌜ ((j : ℕ) (b : Bool) → j < 4 → costsOf r j b ≡ freeFold 4 (freeFold 8 (costsOf (now (rows .entry)))) j b) ⌝ }
+{
+    let mut out = [[0u32; 4]; 2];
     let mut i: usize = 0;
-    while i < half {
-        out[0][i] = lesser(a[i] + a[half + i], b[i] + b[half + i]);
-        out[1][i] = lesser(b[i] + a[half + i], a[i] + b[half + i]);
+    while i < 4 {
+        let p = free_at(rows, i);
+        let q = free_at(rows, 4 + i);
+        let folded = free(p, q);
+        let zero = folded.zero;
+        let one = folded.one;
+        out[0][i] = zero;
+        out[1][i] = one;
         i += 1;
     }
     out
 }
 
-// The costs of the second half of the places, where the bits of the first half's word stand in word from an index on.
-pub fn fold_known(rows: [[u32; 16]; 2], half: usize, word: u16, from: usize) -> [[u32; 16]; 2]
-    requires { ⌜ (half ≤ 8) × (from + half ≤ 16) ⌝ }
-    requires { ⌜ Within 16777216 rows ⌝ }
-    ensures folded { λ r. ⌜ ((j : ℕ) (b : Bool) → j < half → costsOf r j b ≡ knownFold half (λ i. Bit.bit (bits 16 word) (from + i)) (costsOf rows) j b) ⌝ }
-    ensures within { λ r. ⌜ ((n : ℕ) → Within n rows → Within (n + n) r) ⌝ }
+// The same with the first half known the second time.
+pub fn free_known(rows: &[[u32; 16]; 2], word: u32) -> [[u32; 4]; 2]
+    requires { ⌜ Within 65536 (now rows) ⌝ }
+    ensures { λ r. ⌜ ((j : ℕ) (b : Bool) → j < 4 → costsOf r j b ≡ knownFold 4 (Bit.bit (bits 16 word)) (freeFold 8 (costsOf (now (rows .entry)))) j b) ⌝ }
 {
-    let a = rows[0];
-    let b = rows[1];
-    let mut out = [[0u32; 16]; 2];
+    let mut out = [[0u32; 4]; 2];
     let mut i: usize = 0;
-    while i < half {
-        if bits::word_bit(word, from + i) {
-            out[0][i] = b[i] + a[half + i];
-            out[1][i] = a[i] + b[half + i];
-        } else {
-            out[0][i] = a[i] + a[half + i];
-            out[1][i] = b[i] + b[half + i];
-        }
+    while i < 4 {
+        let p = free_at(rows, i);
+        let q = free_at(rows, 4 + i);
+        let folded = known(bit_of(word, i), p, q);
+        let zero = folded.zero;
+        let one = folded.one;
+        out[0][i] = zero;
+        out[1][i] = one;
+        i += 1;
+    }
+    out
+}
+
+// The same with the first half known the first time.
+pub fn known_free(rows: &[[u32; 16]; 2], word: u32) -> [[u32; 4]; 2]
+    requires { ⌜ Within 65536 (now rows) ⌝ }
+    ensures { λ r. ⌜ ((j : ℕ) (b : Bool) → j < 4 → costsOf r j b ≡ freeFold 4 (knownFold 8 (Bit.bit (bits 16 word)) (costsOf (now (rows .entry)))) j b) ⌝ }
+{
+    let mut out = [[0u32; 4]; 2];
+    let mut i: usize = 0;
+    while i < 4 {
+        let p = known_at(rows, word, i);
+        let q = known_at(rows, word, 4 + i);
+        let folded = free(p, q);
+        let zero = folded.zero;
+        let one = folded.one;
+        out[0][i] = zero;
+        out[1][i] = one;
+        i += 1;
+    }
+    out
+}
+
+// The same with the first half known both times.
+pub fn known_known(rows: &[[u32; 16]; 2], word: u32) -> [[u32; 4]; 2]
+    requires { ⌜ Within 65536 (now rows) ⌝ }
+    ensures { λ r. ⌜ ((j : ℕ) (b : Bool) → j < 4 → costsOf r j b ≡ knownFold 4 (λ i. Bit.bit (bits 16 word) (8 + i)) (knownFold 8 (Bit.bit (bits 16 word)) (costsOf (now (rows .entry)))) j b) ⌝ }
+{
+    let mut out = [[0u32; 4]; 2];
+    let mut i: usize = 0;
+    while i < 4 {
+        let p = known_at(rows, word, i);
+        let q = known_at(rows, word, 4 + i);
+        let folded = known(bit_of(word, 8 + i), p, q);
+        let zero = folded.zero;
+        let one = folded.one;
+        out[0][i] = zero;
+        out[1][i] = one;
         i += 1;
     }
     out

@@ -3,50 +3,95 @@ ghost use mathlib.Core.Path.{_≡_};
 ghost use mathlib.Core.Bool.{Bool, true, false};
 ghost use mathlib.Core.List.{[], _++_};
 ghost use Prim.Native.Nat.{ℕ, _+_, _-_, _*_, _/_, _%_, _^_, _≤_, _<_};
+ghost use lib.Bits.{bitXor};
 ghost use lib.ListN.{length, take, drop, getD};
 ghost use lib.IntN.{pos, negℤ, natAbs};
 ghost use Rattle.base.specs.Bit;
-ghost use Rattle.bits.specs.Packed.{bits, digit};
+ghost use Rattle.bits.specs.Packed.{bits};
 ghost use Rattle.polar.specs.Fold.{level};
-ghost use Rattle.folds.specs.Rows.{cell, costsOf, Within};
+ghost use Rattle.folds.specs.Rows.{cell, costsOf, Within, Pays};
 ghost use Rattle.windows.specs.Tables.{shapeTable, pathTable, pathRows};
-ghost use Rattle.windows.specs.Paths.{Kept, Held, Choice, pathWordOf, HalfOf, keyOf, lastLeast, pathLeast, Leads};
+ghost use Rattle.windows.specs.Paths.{Kept, Held, Choice, pathWordOf, FourOf, lastLeast, pathLeast, Leads};
 ghost use Rattle.answer.specs.Verdict.{verdict, done, settle};
 ghost use Rattle.polar.specs.Follow.{scores};
 ghost use Rattle.kernel.specs.Kernels.{kernelCode};
 ghost use Rattle.follow.specs.Jobs.{followChecks, kernelFollow};
 use answer::Answer;
+use folds::Pair;
 
 mod phases;
 
 // The symbols before a phase, the phase's own, and the window's bits, as the tables take them.
-fn choice(symbols: u16, phase: usize, own: bool, window: usize, high: usize) -> u16
+fn choice(symbols: u16, phase: usize, own: bool, window: usize, high: usize) -> u32
     requires { ⌜ (phase ≤ high) × (high < 16) × (window < 2 ^ (high - phase)) ⌝ }
-    ensures { λ r. ⌜ Choice (take phase (bits 16 symbols)) own (bits (high - phase) window) r ⌝ }
+    ensures { λ r. ⌜ (r < 65536) × Choice (take phase (bits 16 symbols)) own (bits (high - phase) window) r ⌝ }
 {
     let before = (symbols as u32 >> (16 - phase)) << (16 - phase);
     let rest = (window as u32) << (15 - high);
-    (before + ((own as u32) << (15 - phase)) + rest) as u16
+    before + ((own as u32) << (15 - phase)) + rest
 }
 
-// One level of folds: onto the second half where the first is known, else onto the first.
-fn fold_level(
-    rows: [[u32; 16]; 2],
-    half: usize,
-    known: usize,
-    word: u16,
-    from: usize,
-) -> [[u32; 16]; 2]
-    requires { ⌜ (half ≤ 8) × (from + half ≤ 16) ⌝ }
-    requires { ⌜ Within 16777216 rows ⌝ }
-    ensures folded { λ r. ⌜ ((j : ℕ) (b : Bool) → j < half → costsOf r j b ≡ level half known (λ i. Bit.bit (bits 16 word) (from + i)) (costsOf rows) j b) ⌝ }
-    ensures within { λ r. ⌜ ((n : ℕ) → Within n rows → Within (n + n) r) ⌝ }
+// A sum with one more row where it is chosen.
+fn with_row(c: u16, row: u16, chosen: bool) -> u16
+    ensures { λ r. ⌜ (chosen ≡ true → r ≡ bitXor c row) × (chosen ≡ false → r ≡ c) ⌝ }
 {
-    if half <= known {
-        folds::fold_known(rows, half, word, from)
-    } else {
-        folds::fold_free(rows, half)
+    if chosen { c ^ row } else { c }
+}
+
+// What a phase's table makes of a path: the sum of the rows that the symbols and the window choose.
+fn path_word(
+    table: &[u16; 16],
+    symbols: u16,
+    phase: usize,
+    own: bool,
+    window: usize,
+    high: usize,
+) -> u32
+    requires { ⌜ (phase ≤ high) × (high < 16) × (window < 2 ^ (high - phase)) ⌝ }
+    ensures { λ r. ⌜ r ≡ pathWordOf (now (table .entry)) symbols phase high own window ⌝ }
+{
+    let x = choice(symbols, phase, own, window, high);
+    let mut c: u16 = 0;
+    let mut s: usize = 0;
+    while s < 16 {
+        c = with_row(c, table[s], folds::bit_of(x, s));
+        s += 1;
     }
+    c as u32
+}
+
+// The first two folds of a path.
+fn two_folds(costs: &[[u32; 16]; 2], high: usize, word: u32) -> [[u32; 4]; 2]
+    requires { ⌜ (high < 16) × Within 65536 (now costs) ⌝ }
+    ensures { λ r. ⌜ FourOf (now (costs .entry)) high r word ⌝ }
+{
+    if high < 4 {
+        return folds::free_free(costs);
+    }
+    if high < 8 {
+        return folds::free_known(costs, word);
+    }
+    if high < 12 {
+        return folds::known_free(costs, word);
+    }
+    folds::known_known(costs, word)
+}
+
+// The same for each of many paths. With a single caller the compiler would merge the four, and find no vector instructions.
+fn two_folds_each(costs: &[[u32; 16]; 2], high: usize, word: u32) -> [[u32; 4]; 2]
+    requires { ⌜ (high < 16) × Within 65536 (now costs) ⌝ }
+    ensures { λ r. ⌜ FourOf (now (costs .entry)) high r word ⌝ }
+{
+    if high < 4 {
+        return folds::free_free(costs);
+    }
+    if high < 8 {
+        return folds::free_known(costs, word);
+    }
+    if high < 12 {
+        return folds::known_free(costs, word);
+    }
+    folds::known_known(costs, word)
 }
 
 // The best score that belongs to a least total.
@@ -63,17 +108,47 @@ struct Best {
     one: i32,
 }
 
-// The best scores of a path, by three folds of what the first one left.
-fn best_of(half: [[u32; 16]; 2], high: usize, word: u16) -> Best
-    requires { ⌜ (high < 16) × Within 131072 half ⌝ }
-    ensures { λ r. ⌜ (r .zero ≡ negℤ (pos (lastLeast half high word false))) × (r .one ≡ negℤ (pos (lastLeast half high word true))) ⌝ }
+// A place of the four that two folds leave.
+fn place(four: &[[u32; 4]; 2], i: usize) -> Pair
+    requires { ⌜ i < 4 ⌝ }
+    ensures { λ r. ⌜ Pays (costsOf (now (four .entry))) i (r .zero) (r .one) ⌝ }
 {
-    let four = fold_level(half, 4, high % 8, word, high / 8 * 8);
-    let two = fold_level(four, 2, high % 4, word, high / 4 * 4);
-    let last = fold_level(two, 1, high % 2, word, high / 2 * 2);
-    let zero = minus(last[0][0]);
-    let one = minus(last[1][0]);
-    if bits::word_bit(word, high) {
+    let zero = four[0][i];
+    let one = four[1][i];
+    Pair { zero, one }
+}
+
+// The least totals of a path where its last v is 0 and where it is 1, by the last two folds.
+fn last_two(four: &[[u32; 4]; 2], high: usize, word: u32) -> Pair
+    requires { ⌜ (high < 16) × ((j : ℕ) (b : Bool) → j < 4 → costsOf (now four) j b ≤ 262144) ⌝ }
+    ensures { λ r. ⌜ Pays (level 1 (high % 2) (λ i. Bit.bit (bits 16 word) (high / 2 * 2 + i)) (level 2 (high % 4) (λ i. Bit.bit (bits 16 word) (high / 4 * 4 + i)) (costsOf (now (four .entry))))) 0 (r .zero) (r .one) ⌝ }
+{
+    let sure = 2 <= high % 4;
+    let from = high / 4 * 4;
+    let p = folds::fold_pair(
+        sure,
+        folds::bit_of(word, from),
+        place(four, 0),
+        place(four, 2),
+    );
+    let q = folds::fold_pair(
+        sure,
+        folds::bit_of(word, from + 1),
+        place(four, 1),
+        place(four, 3),
+    );
+    folds::fold_pair(1 <= high % 2, folds::bit_of(word, high / 2 * 2), p, q)
+}
+
+// The best scores of a path, by what its first two folds left.
+fn best_of(four: &[[u32; 4]; 2], high: usize, word: u32) -> Best
+    requires { ⌜ (high < 16) × ((j : ℕ) (b : Bool) → j < 4 → costsOf (now four) j b ≤ 262144) ⌝ }
+    ensures { λ r. ⌜ (r .zero ≡ negℤ (pos (lastLeast (now (four .entry)) high word false))) × (r .one ≡ negℤ (pos (lastLeast (now (four .entry)) high word true))) ⌝ }
+{
+    let last = last_two(four, high, word);
+    let zero = minus(last.zero);
+    let one = minus(last.one);
+    if folds::bit_of(word, high) {
         Best {
             zero: one,
             one: zero,
@@ -83,56 +158,48 @@ fn best_of(half: [[u32; 16]; 2], high: usize, word: u16) -> Best
     }
 }
 
-// What tells the first folds of two paths apart.
-fn key(word: u16, high: usize) -> u32
-    ensures { λ r. ⌜ r ≡ keyOf high word ⌝ }
-{
-    if 8 <= high { (word / 256) as u32 } else { 0 }
-}
-
-// The first fold of a path: that of the path before where it is the same.
-fn first_fold(
-    half: [[u32; 16]; 2],
-    same: bool,
-    costs: [[u32; 16]; 2],
-    high: usize,
-    word: u16,
-) -> [[u32; 16]; 2]
-    requires { ⌜ (Within 65536 costs) × (Within 131072 half) ⌝ }
-    requires { ⌜ (same ≡ true → HalfOf costs high half word) ⌝ }
-    ensures { λ r. ⌜ (HalfOf costs high r word) × (Within 131072 r) ⌝ }
-{
-    if same {
-        half
-    } else {
-        fold_level(costs, 8, high, word, 0)
-    }
-}
-
-// The rows of a phase whose relations reach further, folded from the costs. Paths with one first half share its fold.
-fn fresh_rows(
-    table: [u16; 16],
+// The rows of a phase with a single path, folded from the costs.
+fn one_path(
+    table: &[u16; 16],
     symbols: u16,
     phase: usize,
     high: usize,
-    costs: [[u32; 16]; 2],
+    costs: &[[u32; 16]; 2],
+) -> [[i32; 16]; 2]
+    requires { ⌜ (phase ≡ high) × (high < 16) ⌝ }
+    requires { ⌜ Within 65536 (now costs) ⌝ }
+    ensures { λ r. ⌜ ((w : ℕ) (b : Bool) → w < 2 ^ (high - phase) → cell (pos 0) r w b ≡ negℤ (pos (pathLeast (now (costs .entry)) high (pathWordOf (now (table .entry)) symbols phase high false w) b))) ⌝ }
+{
+    let word = path_word(table, symbols, phase, false, high - phase, high);
+    let four = two_folds(costs, high, word);
+    let best = best_of(&four, high, word);
+    let zero = best.zero;
+    let one = best.one;
+    let mut out = [[0i32; 16]; 2];
+    out[0][0] = zero;
+    out[1][0] = one;
+    out
+}
+
+// The rows of a phase whose relations reach further, folded from the costs path by path.
+fn fresh_rows(
+    table: &[u16; 16],
+    symbols: u16,
+    phase: usize,
+    high: usize,
+    costs: &[[u32; 16]; 2],
 ) -> [[i32; 16]; 2]
     requires { ⌜ (phase ≤ high) × (high < 16) × (high - phase ≤ 4) ⌝ }
-    requires { ⌜ Within 65536 costs ⌝ }
-    ensures { λ r. ⌜ ((w : ℕ) (b : Bool) → w < 2 ^ (high - phase) → cell (pos 0) r w b ≡ negℤ (pos (pathLeast costs high (pathWordOf table symbols phase high false w) b))) ⌝ }
+    requires { ⌜ Within 65536 (now costs) ⌝ }
+    ensures { λ r. ⌜ ((w : ℕ) (b : Bool) → w < 2 ^ (high - phase) → cell (pos 0) r w b ≡ negℤ (pos (pathLeast (now (costs .entry)) high (pathWordOf (now (table .entry)) symbols phase high false w) b))) ⌝ }
 {
     let paths: usize = 1 << (high - phase);
     let mut out = [[0i32; 16]; 2];
-    let mut half = [[0u32; 16]; 2];
-    let mut made: u32 = 256;
     let mut w: usize = 0;
     while w < paths {
-        let word = kernel::row_sum(table, choice(symbols, phase, false, w, high));
-        let top = key(word, high);
-        let next = first_fold(half, top == made, costs, high, word);
-        half = next;
-        made = top;
-        let best = best_of(half, high, word);
+        let word = path_word(table, symbols, phase, false, w, high);
+        let four = two_folds_each(costs, high, word);
+        let best = best_of(&four, high, word);
         let zero = best.zero;
         let one = best.one;
         out[0][w] = zero;
@@ -144,22 +211,22 @@ fn fresh_rows(
 
 // The rows of a phase whose relations reach no further: each path was one of the phase before.
 fn again_rows(
-    table: [u16; 16],
+    table: &[u16; 16],
     symbols: u16,
     phase: usize,
     high: usize,
-    kept: [i32; 16],
+    kept: &[i32; 16],
 ) -> [[i32; 16]; 2]
     requires { ⌜ (phase ≤ high) × (high < 16) × (high - phase ≤ 4) ⌝ }
-    requires { ⌜ ((w : ℕ) (b : Bool) → w < 2 ^ (high - phase) → pathWordOf table symbols phase high b w < 16) ⌝ }
-    ensures { λ r. ⌜ ((w : ℕ) (b : Bool) → w < 2 ^ (high - phase) → cell (pos 0) r w b ≡ getD kept (pathWordOf table symbols phase high b w) (pos 0)) ⌝ }
+    requires { ⌜ ((w : ℕ) (b : Bool) → w < 2 ^ (high - phase) → pathWordOf (now table) symbols phase high b w < 16) ⌝ }
+    ensures { λ r. ⌜ ((w : ℕ) (b : Bool) → w < 2 ^ (high - phase) → cell (pos 0) r w b ≡ getD (now (kept .entry)) (pathWordOf (now (table .entry)) symbols phase high b w) (pos 0)) ⌝ }
 {
     let paths: usize = 1 << (high - phase);
     let mut out = [[0i32; 16]; 2];
     let mut w: usize = 0;
     while w < paths {
-        let zero = kernel::row_sum(table, choice(symbols, phase, false, w, high)) as usize;
-        let one = kernel::row_sum(table, choice(symbols, phase, true, w, high)) as usize;
+        let zero = path_word(table, symbols, phase, false, w, high) as usize;
+        let one = path_word(table, symbols, phase, true, w, high) as usize;
         out[0][w] = kept[zero];
         out[1][w] = kept[one];
         w += 1;
@@ -172,23 +239,25 @@ pub fn step(
     kernel: usize,
     phase: usize,
     shape: [u8; 2],
-    table: [u16; 16],
-    costs: [[u32; 16]; 2],
+    table: &[u16; 16],
+    costs: &[[u32; 16]; 2],
     symbols: u16,
-    kept: [i32; 16],
+    kept: &[i32; 16],
 ) -> [[i32; 16]; 2]
     requires { ⌜ (kernel < 3) × (phase < 16) ⌝ }
-    requires { ⌜ (shape ≡ getD (getD shapeTable kernel []) phase []) × (table ≡ pathRows kernel phase) ⌝ }
-    requires { ⌜ Within 65536 costs ⌝ }
-    requires { ⌜ (0 < phase → Kept kernel (costsOf costs) (take phase (bits 16 symbols)) kept) ⌝ }
-    ensures { λ r. ⌜ Held kernel (costsOf costs) (take phase (bits 16 symbols)) r ⌝ }
+    requires { ⌜ (shape ≡ getD (getD shapeTable kernel []) phase []) × (now table ≡ pathRows kernel phase) ⌝ }
+    requires { ⌜ Within 65536 (now costs) ⌝ }
+    requires { ⌜ (0 < phase → Kept kernel (costsOf (now costs)) (take phase (bits 16 symbols)) (now kept)) ⌝ }
+    ensures { λ r. ⌜ Held kernel (costsOf (now (costs .entry))) (take phase (bits 16 symbols)) r ⌝ }
 {
     let high = shape[0] as usize;
-    if shape[1] == 0 {
-        fresh_rows(table, symbols, phase, high, costs)
-    } else {
-        again_rows(table, symbols, phase, high, kept)
+    if shape[1] != 0 {
+        return again_rows(table, symbols, phase, high, kept);
     }
+    if high == phase {
+        return one_path(table, symbols, phase, high, costs);
+    }
+    fresh_rows(table, symbols, phase, high, costs)
 }
 
 // The greatest of the first n entries of row 0, less that of row 1.
@@ -218,7 +287,7 @@ pub fn tables_of(kernel: usize) -> [[u16; 16]; 16]
     phases::PATHS[kernel]
 }
 
-// The scores of all phases: at each the rows are made from those kept, and the row of the given symbol is kept.
+// The scores of all phases: at each the rows are made from those kept, and the row of the given symbol is kept. After the last nothing is.
 fn follow(kernel: usize, costs: [[u32; 16]; 2], symbols: u16) -> [i16; 16]
     requires { ⌜ (kernel < 3) × Within 2047 costs ⌝ }
     ensures { λ r. ⌜ r ≡ scores (kernelCode kernel) (costsOf costs) (bits 16 symbols) ⌝ }
@@ -228,9 +297,9 @@ fn follow(kernel: usize, costs: [[u32; 16]; 2], symbols: u16) -> [i16; 16]
     let mut out = [0i16; 16];
     let mut kept = [0i32; 16];
     let mut s: usize = 0;
-    while s < 16 {
+    while s < 15 {
         let shape = shapes[s];
-        let rows = step(kernel, s, shape, tables[s], costs, symbols, kept);
+        let rows = step(kernel, s, shape, &tables[s], &costs, symbols, &kept);
         let high = shape[0] as usize;
         out[s] = difference(&rows, 1 << (high - s)) as i16;
         let own = bits::word_bit(symbols, s) as usize;
@@ -238,6 +307,8 @@ fn follow(kernel: usize, costs: [[u32; 16]; 2], symbols: u16) -> [i16; 16]
         kept = chosen;
         s += 1;
     }
+    let rows = step(kernel, 15, shapes[15], &tables[15], &costs, symbols, &kept);
+    out[15] = difference(&rows, 1) as i16;
     out
 }
 

@@ -35,7 +35,15 @@ pub fn outer_rows(
     let mut out = [[[0i32; 16]; 2]; 16];
     let mut j: usize = 0;
     while j < 16 {
-        out[j] = follow::step(kernel, phase, shape, table, costs[j], columns[j], kept[j]);
+        out[j] = follow::step(
+            kernel,
+            phase,
+            shape,
+            &table,
+            &costs[j],
+            columns[j],
+            &kept[j],
+        );
         j += 1;
     }
     out
@@ -136,7 +144,7 @@ pub fn inner_row(kernel: usize, values: [i16; 16], free: u16, given: u16, start:
     let mut s: usize = 0;
     while s < 16 {
         let shape = shapes[s];
-        let rows = follow::step(kernel, s, shape, tables[s], costs, symbols, kept);
+        let rows = follow::step(kernel, s, shape, &tables[s], &costs, symbols, &kept);
         let high = shape[0] as usize;
         let score = follow::difference(&rows, 1 << (high - s));
         let own = symbol_of(bits::word_bit(free, s), bits::word_bit(given, s), score);

@@ -1,5 +1,5 @@
 -- The loop over the phases: what each turn asks for and leaves. Assumes nothing.
-use mathlib.Core.Path.{_≡_, refl, sym, ap, _∙_, subst⁻¹}
+use mathlib.Core.Path.{_≡_, refl, sym, ap, _∙_, subst, subst⁻¹}
 use mathlib.Core.Bool.{Bool, true, false}
 use mathlib.Core.List.{List, [], _∷_, _++_}
 use Prim.Native.Nat.{ℕ, zero, suc, _+_, _-_, _*_, _%_, _^_, _≤_, _<_}
@@ -68,6 +68,11 @@ module _ (k : ℕ) (lk : k < 3) (costs : List (List ℕ)) (most : Within 2047 co
   pub paths-is : paths ≡ 2 ^ (shapeAt k s 0 - s)
   paths-is = paths-are (getD (getD shapes s []) 0 0 - s) (range .2) ∙ ap (λ l. 2 ^ (getD l 0 0 - s)) shape-is
 
+  last-one : s ≡ 15 → 1 * 2 ^ (getD (getD shapes s []) 0 0 - s) % 18446744073709551616 ≡ 1
+  last-one e =
+      let d : getD (getD shapes s []) 0 0 - s ≡ 0 = omega (arith, range .0, range .1) in
+      ap (λ d. 1 * 2 ^ d % 18446744073709551616) d
+
   sized : length (take s (bits 16 symbols)) ≡ s
   sized = length-take-le s (bits 16 symbols) (omega (arith, length-bits 16 symbols))
 
@@ -83,6 +88,13 @@ module _ (k : ℕ) (lk : k < 3) (costs : List (List ℕ)) (most : Within 2047 co
     pub difference-is : (r : ℤ) → Leads rows (1 * 2 ^ (getD (getD shapes s []) 0 0 - s) % 18446744073709551616) r
         → r ≡ score (kernelCode k) (costsOf costs) (take s (bits 16 symbols))
     difference-is r l = held-score k s lk ls (costsOf costs) (take s (bits 16 symbols)) sized rows h r (rw paths-is at l)
+
+    -- The same after the last phase, which has one path.
+    pub last-asks : s ≡ 15 → ((0 < 1) × (1 ≤ 16)) × ((w : ℕ) (b : Bool) → w < 1 → natAbs (cell (pos 0) rows w b) ≤ 16777216)
+    last-asks e = subst (λ n. ((0 < n) × (n ≤ 16)) × ((w : ℕ) (b : Bool) → w < n → natAbs (cell (pos 0) rows w b) ≤ 16777216)) (last-one e) difference-asks
+
+    pub last-is : s ≡ 15 → (r : ℤ) → Leads rows 1 r → r ≡ score (kernelCode k) (costsOf costs) (take s (bits 16 symbols))
+    last-is e r l = difference-is r (subst⁻¹ (λ n. Leads rows n r) (last-one e) l)
 
     -- A score fits sixteen bits,
     pub score-fits : (r : ℤ) → r ≡ score (kernelCode k) (costsOf costs) (take s (bits 16 symbols)) → SFits w16 r

@@ -1,9 +1,8 @@
 -- Proof side: the best scores of a window's paths, as rows keep them. Assumes nothing.
 use mathlib.Core.Path.{_≡_}
-use mathlib.Core.Bool.{Bool, true, false}
+use mathlib.Core.Bool.{Bool, false}
 use mathlib.Core.List.{List, [], _∷_, _++_}
 use Prim.Native.Nat.{ℕ, _+_, _-_, _*_, _/_, _%_, _^_, _<_}
-use lib.Dec.{leb}
 use lib.ListN.{length, take, getD, replicate}
 use lib.IntN.{ℤ, pos, _-ℤ_}
 use Rattle.base.specs.Bit.{_⊕_, bit}
@@ -44,17 +43,14 @@ chosen us b ws = number (us ++ (b ∷ ws) ++ replicate (16 - (length us + (1 + l
 abbrev pub pathWordOf : List ℕ → ℕ → ℕ → ℕ → Bool → ℕ → ℕ
 pathWordOf table symbols phase high b w = rowSum table (chosen (take phase (bits 16 symbols)) b (bits (high - phase) w))
 
--- Eight costs: what the first fold leaves for a path with this word.
-abbrev pub HalfOf : List (List ℕ) → ℕ → List (List ℕ) → ℕ → Type 0
-HalfOf costs high half word = (j : ℕ) (b : Bool) → j < 8 → costsOf half j b ≡ level 8 high (bit (bits 16 word)) (costsOf costs) j b
+-- Four costs: what the first two folds leave for a path with this word.
+abbrev pub FourOf : List (List ℕ) → ℕ → List (List ℕ) → ℕ → Type 0
+FourOf costs high four word =
+    (j : ℕ) (b : Bool) → j < 4 → costsOf four j b ≡ level 4 (high % 8) (λ i. bit (bits 16 word) (high / 8 * 8 + i)) (level 8 high (bit (bits 16 word)) (costsOf costs)) j b
 
--- What tells the first folds of two paths apart: the word of the first half, where it is known.
-abbrev pub keyOf : ℕ → ℕ → ℕ
-keyOf high word = elim (leb 8 high) [ true ↦ word / 256 | false ↦ 0 ]
-
--- The least total of a path with symbol b, by the last three folds.
+-- The least total of a path with symbol b, by the last two folds.
 abbrev pub lastLeast : List (List ℕ) → ℕ → ℕ → Bool → ℕ
-lastLeast half high word b = folded 3 (high % 8) (λ j. bit (bits 16 word) (high / 8 * 8 + j)) (costsOf half) 0 (bit (bits 16 word) high ⊕ b)
+lastLeast four high word b = folded 2 (high % 4) (λ j. bit (bits 16 word) (high / 4 * 4 + j)) (costsOf four) 0 (bit (bits 16 word) high ⊕ b)
 
 -- The same by all four.
 abbrev pub pathLeast : List (List ℕ) → ℕ → ℕ → Bool → ℕ

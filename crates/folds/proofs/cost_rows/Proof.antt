@@ -13,13 +13,13 @@ use Rattle.folds.proofs.cost_rows.Statement.{statement}
 use Rattle.folds.proofs.cost_rows.Tie as tie
 
 abbrev Inv-loop : tie.InvT-loop
-Inv-loop values out₀ i₀ out i = (i ≤ 16) × Filled 0 i (channel values) out
+Inv-loop values out₀ i₀ out i = (i ≤ 16) × Filled 0 16 i (channel values) out
 
 abbrev μ-loop : tie.MeasureT-loop
 μ-loop values out₀ i₀ out i = 16 - i
 
 loop-holds : tie.Need-loop-holds Inv-loop μ-loop
-loop-holds c = (search needs, filled-none 0 _)
+loop-holds c = (search needs, filled-none 0 16 _)
 
 mul-y : tie.Need-mul-y Inv-loop μ-loop
 mul-y c = search needs
@@ -69,9 +69,9 @@ loop-again c =
     let y = getD (c .before .before .before .before .args .values .now) (k .i) (pos 0) in
     ⊎-elim
     (λ w. let p = neg-cost y (c .before .y .given) (w .0 .taken) in
-    (search needs, rw (w .1) (fill-one 0 (k .i) _ (k .out) (k .inv .1) false _ (search needs) (p .0) (p .1))))
+    (search needs, rw (w .1) (fill-one 0 16 (k .i) _ (k .out) (k .inv .1) false _ (search needs) (p .0) (p .1))))
     (λ w. let p = pos-cost y (c .before .y .given) (w .0 .left) in
-    (search needs, rw (w .1) (fill-one 0 (k .i) _ (k .out) (k .inv .1) true _ (search needs) (p .0) (p .1))))
+    (search needs, rw (w .1) (fill-one 0 16 (k .i) _ (k .out) (k .inv .1) true _ (search needs) (p .0) (p .1))))
     (c .if1 .came)
 
 returns : tie.Need-returns Inv-loop μ-loop
@@ -80,7 +80,7 @@ returns c =
     let e : c .before .loop .i ≡ 16 = search needs in
     let p = c .before .before .pre in
     let f = rw e at (c .before .loop .inv .1) in
-    (f .done, λ n h. filled-within 16 _ _ f n (λ j b l. channel-le n ys (h ∙ sym (p .0)) j b (rw (p .0) l)))
+    (f .done, λ n h. filled-within 16 16 _ _ f n (λ j b l. channel-le n ys (h ∙ sym (p .0)) j b (rw (p .0) l)))
 
 pub cost-rows-spec : {M : Type 1} → statement M
 cost-rows-spec =

@@ -53,11 +53,11 @@ add-result c = omega (arith, shifts-lt _ _ _ (c .args .own) _ (c .pre .0) (c .pr
 add-result-2 : tie.Need-add-result-2
 add-result-2 c = omega (arith, shifts-lt _ _ _ (c .args .own) _ (c .pre .0) (c .pre .1) (c .fits .symbols .fits) (c .pre .2))
 
-cast-result-3 : tie.Need-cast-result-3
-cast-result-3 c = omega (arith, shifts-lt _ _ _ (c .args .own) _ (c .pre .0) (c .pre .1) (c .fits .symbols .fits) (c .pre .2))
-
 returns : tie.Need-returns
-returns c = shifts-bits _ _ _ (c .args .own) _ (c .pre .0) (c .pre .1) (c .fits .symbols .fits) (c .pre .2)
+returns c = (
+  omega (arith, shifts-lt _ _ _ (c .args .own) _ (c .pre .0) (c .pre .1) (c .fits .symbols .fits) (c .pre .2)),
+  shifts-bits _ _ _ (c .args .own) _ (c .pre .0) (c .pre .1) (c .fits .symbols .fits) (c .pre .2),
+)
 
 pub choice-spec : {M : Type 1} → statement M
 choice-spec =
@@ -79,5 +79,4 @@ choice-spec =
     shl-result
     add-result
     add-result-2
-    cast-result-3
     returns)

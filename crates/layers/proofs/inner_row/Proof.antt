@@ -67,40 +67,40 @@ array-copy-out-shape c = search needs
 mul-step : tie.Need-mul-step Inv-loop μ-loop
 mul-step c = search needs
 
-array-copy-out-step : tie.Need-array-copy-out-step Inv-loop μ-loop
-array-copy-out-step c = search needs
+index-1-step : tie.Need-index-1-step Inv-loop μ-loop
+index-1-step c = search needs
 
 step-requires : tie.Need-step-requires Inv-loop μ-loop
 step-requires c κs =
-    let l = c .before .before .before .loop in
-    let r = c .before .before .before .before .before .before .before .before in (
+    let l = c .before .before .before .before .before .loop in
+    let r = c .before .before .before .before .before .before .before .before .before .before in (
       (r .pre .0 .0, search needs),
       (
         (
-          ap (λ t. getD t (l .s) []) (c .before .before .before .before .before .before .before .shapes-of .ensures),
-          ap (λ t. getD t (l .s) []) (c .before .before .before .before .before .before .tables-of .ensures),
+          ap (λ t. getD t (l .s) []) (c .before .before .before .before .before .before .before .before .before .shapes-of .ensures),
+          ap (λ t. getD t (l .s) []) (c .before .before .before .before .before .before .before .before .tables-of .ensures),
         ),
-        ((λ j d. omega (arith, most (c .before .before .before .before) j d)), l .inv .kept-so),
+        ((λ j d. omega (arith, most (c .before .before .before .before .before .before) j d)), l .inv .kept-so),
       ),
     )
 
 -- What each phase finds: the numbers of the phase are in range,
-in-phase : (c : tie.After-step Inv-loop μ-loop) → (let s = c .before .before .before .before .loop .s in
-    let shape = getD (c .before .before .before .before .before .before .before .before .shapes-of .result) s [] in
+in-phase : (c : tie.After-step Inv-loop μ-loop) → (let s = c .before .before .before .before .before .before .loop .s in
+    let shape = getD (c .before .before .before .before .before .before .before .before .before .before .shapes-of .result) s [] in
     (s ≤ getD shape 0 0) × (getD shape 0 0 < 16) × (getD shape 0 0 - s ≤ 4))
 in-phase c =
-    let l = c .before .before .before .before .loop in
-    let r = c .before .before .before .before .before .before .before .before .before in
-    range (r .args .kernel) (r .pre .0 .0) (c .before .before .before .before .before .cost-rows .result) (most (c .before .before .before .before .before)) (l .symbols) _ (c .before .before .before .before .before .before .before .before .shapes-of .ensures) (l .s) (search needs)
-
--- and the difference is the score.
-found : (c : tie.After-difference Inv-loop μ-loop) → (let l = c .before .before .before .before .before .before .loop in
-    c .difference .result ≡ score (kernelCode (c .before .before .before .before .before .before .before .before .before .before .before .args .kernel))
-    (costsOf (c .before .before .before .before .before .before .before .cost-rows .result)) (take (l .s) (bits 16 (l .symbols))))
-found c =
     let l = c .before .before .before .before .before .before .loop in
     let r = c .before .before .before .before .before .before .before .before .before .before .before in
-    difference-is (r .args .kernel) (r .pre .0 .0) (c .before .before .before .before .before .before .before .cost-rows .result) (most (c .before .before .before .before .before .before .before)) (l .symbols) _ (c .before .before .before .before .before .before .before .before .before .before .shapes-of .ensures) (l .s) (search needs)
+    range (r .args .kernel) (r .pre .0 .0) (c .before .before .before .before .before .before .before .cost-rows .result) (most (c .before .before .before .before .before .before .before)) (l .symbols) _ (c .before .before .before .before .before .before .before .before .before .before .shapes-of .ensures) (l .s) (search needs)
+
+-- and the difference is the score.
+found : (c : tie.After-difference Inv-loop μ-loop) → (let l = c .before .before .before .before .before .before .before .before .loop in
+    c .difference .result ≡ score (kernelCode (c .before .before .before .before .before .before .before .before .before .before .before .before .before .args .kernel))
+    (costsOf (c .before .before .before .before .before .before .before .before .before .cost-rows .result)) (take (l .s) (bits 16 (l .symbols))))
+found c =
+    let l = c .before .before .before .before .before .before .before .before .loop in
+    let r = c .before .before .before .before .before .before .before .before .before .before .before .before .before in
+    difference-is (r .args .kernel) (r .pre .0 .0) (c .before .before .before .before .before .before .before .before .before .cost-rows .result) (most (c .before .before .before .before .before .before .before .before .before)) (l .symbols) _ (c .before .before .before .before .before .before .before .before .before .before .before .before .shapes-of .ensures) (l .s) (search needs)
     (c .before .before .step .result) (c .before .before .step .ensures) (c .difference .result) (c .difference .ensures)
 
 array-read-high : tie.Need-array-read-high Inv-loop μ-loop
@@ -117,9 +117,9 @@ shl-difference c = omega (arith, in-phase (c .before) .2)
 
 difference-requires : tie.Need-difference-requires Inv-loop μ-loop
 difference-requires c κs =
-    let l = c .before .before .before .before .before .loop in
-    let r = c .before .before .before .before .before .before .before .before .before .before in
-    difference-asks (r .args .kernel) (r .pre .0 .0) (c .before .before .before .before .before .before .cost-rows .result) (most (c .before .before .before .before .before .before)) (l .symbols) _ (c .before .before .before .before .before .before .before .before .before .shapes-of .ensures) (l .s) (search needs)
+    let l = c .before .before .before .before .before .before .before .loop in
+    let r = c .before .before .before .before .before .before .before .before .before .before .before .before in
+    difference-asks (r .args .kernel) (r .pre .0 .0) (c .before .before .before .before .before .before .before .before .cost-rows .result) (most (c .before .before .before .before .before .before .before .before)) (l .symbols) _ (c .before .before .before .before .before .before .before .before .before .before .before .shapes-of .ensures) (l .s) (search needs)
     (c .before .step .result) (c .before .step .ensures)
 
 word-bit-requires : tie.Need-word-bit-requires Inv-loop μ-loop
@@ -135,11 +135,11 @@ paid-requires : tie.Need-paid-requires Inv-loop μ-loop
 paid-requires c κs =
     let e = c .before .before .before in
     rw (toZ-ofZ (record { sfits = e .difference .ok }))
-    (size-le (e .difference .result) 32752 (λ d. rw (found e) (score-bound (kernelCode _) _ 2047 (most (c .before .before .before .before .before .before .before .before .before .before)) _ d)))
+    (size-le (e .difference .result) 32752 (λ d. rw (found e) (score-bound (kernelCode _) _ 2047 (most (c .before .before .before .before .before .before .before .before .before .before .before .before)) _ d)))
 
 -- The symbol of the phase, by its source.
-owned : (c : tie.After-symbol-of Inv-loop μ-loop) → (let l = c .before .before .before .before .before .before .before .before .before .loop in
-    let a = c .before .before .before .before .before .before .before .before .before .before .before .before .before .before .args in
+owned : (c : tie.After-symbol-of Inv-loop μ-loop) → (let l = c .before .before .before .before .before .before .before .before .before .before .before .loop in
+    let a = c .before .before .before .before .before .before .before .before .before .before .before .before .before .before .before .before .args in
     c .symbol-of .result ≡ sourced (bit (bits 16 (a .free)) (l .s)) (bit (bits 16 (a .given)) (l .s)) (c .before .before .before .difference .result))
 owned c =
     own-is (c .symbol-of .result) _ _ _ _ _ (c .before .before .before .difference .result) (c .before .before .word-bit .ensures) (c .before .word-bit2 .ensures) (whole (c .before .before .before .difference .result) (record { sfits = c .before .before .before .difference .ok })) (c .symbol-of .ensures)
@@ -149,16 +149,16 @@ pays : (c : tie.After-paid Inv-loop μ-loop) → c .paid .result ≡ pay (c .bef
 pays c = c .paid .ensures ∙ ap (λ y. pay y (c .before .symbol-of .result)) (whole (c .before .before .before .before .difference .result) (record { sfits = c .before .before .before .before .difference .ok }))
 
 -- The penalty stays small.
-small : (c : tie.After-paid Inv-loop μ-loop) → (let l = c .before .before .before .before .before .before .before .before .before .before .loop in l .penalty + c .paid .result ≤ 65264)
+small : (c : tie.After-paid Inv-loop μ-loop) → (let l = c .before .before .before .before .before .before .before .before .before .before .before .before .loop in l .penalty + c .paid .result ≤ 65264)
 small c =
-    let l = c .before .before .before .before .before .before .before .before .before .before .loop in
-    let r = c .before .before .before .before .before .before .before .before .before .before .before .before .before .before .before in
+    let l = c .before .before .before .before .before .before .before .before .before .before .before .before .loop in
+    let r = c .before .before .before .before .before .before .before .before .before .before .before .before .before .before .before .before .before in
     omega (
       arith,
       pays c,
       r .pre .0 .1,
       next-bound (r .args .kernel) _ _ _ (r .args .start) (l .s) _ _ _ _ _ (l .inv) (search needs) _ (found (c .before .before .before .before)) _ (owned (c .before))
-          (c .before .before .before .before .before .before .step .result) (c .before .before .before .before .before .before .step .ensures) _ refl (most (c .before .before .before .before .before .before .before .before .before .before .before)),
+          (c .before .before .before .before .before .before .step .result) (c .before .before .before .before .before .before .step .ensures) _ refl (most (c .before .before .before .before .before .before .before .before .before .before .before .before .before)),
     )
 
 add-penalty : tie.Need-add-penalty Inv-loop μ-loop
@@ -167,10 +167,10 @@ add-penalty c = omega (arith, small c)
 cast-scores : tie.Need-cast-scores Inv-loop μ-loop
 cast-scores c =
     let e = c .before .before .before .before in
-    let l = c .before .before .before .before .before .before .before .before .before .before .loop in
-    let r = c .before .before .before .before .before .before .before .before .before .before .before .before .before .before .before in
+    let l = c .before .before .before .before .before .before .before .before .before .before .before .before .loop in
+    let r = c .before .before .before .before .before .before .before .before .before .before .before .before .before .before .before .before .before in
     rw (toZ-ofZ (record { sfits = e .difference .ok }))
-    (score-fits (r .args .kernel) (r .pre .0 .0) (c .before .before .before .before .before .before .before .before .before .before .before .cost-rows .result) (most (c .before .before .before .before .before .before .before .before .before .before .before)) (l .symbols) _ (c .before .before .before .before .before .before .before .before .before .before .before .before .before .before .shapes-of .ensures) (l .s) (search needs)
+    (score-fits (r .args .kernel) (r .pre .0 .0) (c .before .before .before .before .before .before .before .before .before .before .before .before .before .cost-rows .result) (most (c .before .before .before .before .before .before .before .before .before .before .before .before .before)) (l .symbols) _ (c .before .before .before .before .before .before .before .before .before .before .before .before .before .before .before .before .shapes-of .ensures) (l .s) (search needs)
     (c .before .before .before .before .before .before .step .result) (c .before .before .before .before .before .before .step .ensures) _ (found e))
 
 mul-scores : tie.Need-mul-scores Inv-loop μ-loop
@@ -208,11 +208,11 @@ loop-less c = search needs
 
 loop-again : tie.Need-loop-again Inv-loop μ-loop
 loop-again c =
-    let l = c .before .before .before .before .before .before .before .before .before .before .before .before .loop in
-    let r = c .before .before .before .before .before .before .before .before .before .before .before .before .before .before .before .before .before in
+    let l = c .before .before .before .before .before .before .before .before .before .before .before .before .before .before .loop in
+    let r = c .before .before .before .before .before .before .before .before .before .before .before .before .before .before .before .before .before .before .before in
     let e = c .before .before .before .before .before .before in
     let d = e .difference .result in
-    let f = score-fits (r .args .kernel) (r .pre .0 .0) (c .before .before .before .before .before .before .before .before .before .before .before .before .before .cost-rows .result) (most (c .before .before .before .before .before .before .before .before .before .before .before .before .before)) (l .symbols) _ (c .before .before .before .before .before .before .before .before .before .before .before .before .before .before .before .before .shapes-of .ensures) (l .s) (search needs)
+    let f = score-fits (r .args .kernel) (r .pre .0 .0) (c .before .before .before .before .before .before .before .before .before .before .before .before .before .before .before .cost-rows .result) (most (c .before .before .before .before .before .before .before .before .before .before .before .before .before .before .before)) (l .symbols) _ (c .before .before .before .before .before .before .before .before .before .before .before .before .before .before .before .before .before .before .shapes-of .ensures) (l .s) (search needs)
     (c .before .before .before .before .before .before .before .before .step .result) (c .before .before .before .before .before .before .before .before .step .ensures) _ (found e) in
     going-turn (r .args .kernel) _ _ _ (r .args .start) (l .s) _ _ _ _ _ (l .inv) (search needs) d (found e) _ (owned (c .before .before .before))
     (c .before .before .before .before .before .before .before .before .step .result) (c .before .before .before .before .before .before .before .before .step .ensures) _ (c .before .with-bit .ensures)
@@ -239,7 +239,7 @@ inner-row-spec =
     mul-shape
     array-copy-out-shape
     mul-step
-    array-copy-out-step
+    index-1-step
     step-requires
     array-read-high
     cast-high

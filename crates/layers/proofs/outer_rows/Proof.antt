@@ -13,11 +13,11 @@ use Rattle.layers.proofs.outer_rows.Statement.{statement}
 use Rattle.layers.proofs.outer_rows.Tie as tie
 
 abbrev Inv-loop : tie.InvT-loop
-Inv-loop kernel phase shape table costs columns kept out₀ j₀ out j =
+Inv-loop kernel phase shape costs table columns kept out₀ j₀ out j =
     (j ≤ 16) × (length out ≡ 16) × ((i : ℕ) → i < j → Held kernel (costsAt costs i) (before phase columns i) (getD out i []))
 
 abbrev μ-loop : tie.MeasureT-loop
-μ-loop kernel phase shape table costs columns kept out₀ j₀ out j = 16 - j
+μ-loop kernel phase shape costs table columns kept out₀ j₀ out j = 16 - j
 
 loop-holds : tie.Need-loop-holds Inv-loop μ-loop
 loop-holds c = (search needs, refl, λ i l. absurd (omega arith))
@@ -25,8 +25,8 @@ loop-holds c = (search needs, refl, λ i l. absurd (omega arith))
 mul-step : tie.Need-mul-step Inv-loop μ-loop
 mul-step c = search needs
 
-element-copy-out-step : tie.Need-element-copy-out-step Inv-loop μ-loop
-element-copy-out-step c = search needs
+index-1-step : tie.Need-index-1-step Inv-loop μ-loop
+index-1-step c = search needs
 
 mul-step-2 : tie.Need-mul-step-2 Inv-loop μ-loop
 mul-step-2 c = search needs
@@ -37,13 +37,13 @@ array-read-step c = search needs
 mul-step-3 : tie.Need-mul-step-3 Inv-loop μ-loop
 mul-step-3 c = search needs
 
-array-copy-out-step : tie.Need-array-copy-out-step Inv-loop μ-loop
-array-copy-out-step c = search needs
+index-1-step-2 : tie.Need-index-1-step-2 Inv-loop μ-loop
+index-1-step-2 c = search needs
 
 step-requires : tie.Need-step-requires Inv-loop μ-loop
 step-requires c κs =
-    let j = c .before .before .before .loop .j in
-    let p = c .before .before .before .before .pre in
+    let j = c .before .before .before .before .loop .j in
+    let p = c .before .before .before .before .before .pre in
     let l : j < 16 = search needs in
     (p .0, (p .1 .0, ((λ i b. omega (arith, p .1 .1 .0 j l i b)), λ z. p .1 .1 .1 z j l)))
 
@@ -61,8 +61,8 @@ loop-less c = search needs
 
 loop-again : tie.Need-loop-again Inv-loop μ-loop
 loop-again c =
-    let a = c .before .before .before .before .before .args in
-    let l = c .before .before .before .before .loop in (
+    let a = c .before .before .before .before .before .before .args in
+    let l = c .before .before .before .before .before .loop in (
       search needs,
       search needs,
       each-next (λ i. Held (a .kernel) (costsAt (a .costs .now) i) (before (a .phase) (a .t6) i)) (l .out) (l .j) [] (c .step .result) (search needs) (l .inv .2)
@@ -80,11 +80,11 @@ outer-rows-spec =
     μ-loop
     loop-holds
     mul-step
-    element-copy-out-step
+    index-1-step
     mul-step-2
     array-read-step
     mul-step-3
-    array-copy-out-step
+    index-1-step-2
     step-requires
     mul-out
     array-set-from-out
