@@ -1,0 +1,4 @@
+pub mod Rounded
+pub mod Nearest
+pub mod Products
+pub mod Patterns

@@ -1,0 +1,150 @@
+-- The steps of a number are nearest to it among all whole numbers, and even where another is as near. Assumes nothing.
+use mathlib.Core.Path.{_≡_, refl, sym, ap, _∙_}
+use mathlib.Core.Logic.{_⊎_, inl, inr}
+use mathlib.Core.Bool.{Bool, true, false, cond}
+use Prim.Native.Nat.{ℕ, zero, suc, _+_, _-_, _*_, _%_, _≤_, _<_}
+use native.Mathlib.Nat.{mul-le-mul-right, suc-mul}
+use native.Mathlib.Decide.{decLt}
+use native.Mathlib.Omega.{arith}
+use borrow.Author.Tests.{ltb-true, ltb-false}
+use lib.Dec.{T, ltb}
+use lib.IntN.{ℤ, pos, negsuc, negℤ, negℤ-negℤ, natAbs, subℕ, _-ℤ_, _*ℤ_}
+use lib.Ieee.{Float, nan, inf, fin, up, down}
+use lib.Ieee.Fits.{down-pos}
+use lib.Ieee.Positive.{num, den}
+use lib.Ieee.Scale.{finite}
+use Rattle.rounding.specs.Rounding.{rounded, steps, isNegative, signed}
+use Rattle.rounding.proofs.Rounded.{Half, rounded-half, rounded-even}
+
+-- How far the whole number n lies from k times x, in parts of 1 / den x.
+abbrev pub apart : ℕ → Float → ℤ → ℕ
+apart k x n = natAbs (n *ℤ pos (den x) -ℤ signed (isNegative x) (k * num x))
+
+-- ---- distances of whole numbers
+
+-- How far m and n lie apart.
+abbrev between : ℕ → ℕ → ℕ
+between m n = (m - n) + (n - m)
+
+sub-size : (m n : ℕ) → natAbs (subℕ m n) ≡ between m n
+sub-size m n = go (ltb m n) refl
+  where
+    go : (t : Bool) → ltb m n ≡ t → natAbs (cond t (negsuc (n - suc m)) (pos (m - n))) ≡ between m n
+    go true e = let l = ltb-true m n e in omega arith
+    go false e = let l = ltb-false m n e in omega arith
+
+same-side : (m n : ℕ) → natAbs (pos m -ℤ pos n) ≡ between m n
+same-side m zero = omega arith
+same-side m (suc n) = sub-size m (suc n)
+
+same-side-below : (m n : ℕ) → natAbs (negsuc m -ℤ negℤ (pos n)) ≡ between (suc m) n
+same-side-below m n = rw (negℤ-negℤ (pos n)) (sub-size n (suc m) ∙ omega arith)
+
+other-side : (m n : ℕ) → natAbs (negsuc m -ℤ pos n) ≡ suc m + n
+other-side m zero = sub-size 0 (suc m) ∙ omega arith
+other-side m (suc n) = omega arith
+
+other-side-above : (m n : ℕ) → natAbs (pos m -ℤ negℤ (pos n)) ≡ m + n
+other-side-above m n = rw (negℤ-negℤ (pos n)) refl
+
+-- ---- the fraction a / b with the sign s
+
+-- How far n lies from it, in parts of 1 / b.
+abbrev far : Bool → ℕ → ℕ → ℤ → ℕ
+far s a b n = natAbs (n *ℤ pos b -ℤ signed s a)
+
+-- Either n is on its side of 0, or it is on the other.
+abbrev Sides : Bool → ℕ → ℕ → ℤ → Type 0
+Sides s a b n = ((m : ℕ) × ((n ≡ signed s m) × (far s a b n ≡ between (m * b) a))) ⊎ ((m : ℕ) × (far s a b n ≡ suc m * b + a))
+
+-- A product with b above 0.
+positive : (m b : ℕ) → 0 < b → (p : ℕ) × (suc m * b ≡ suc p)
+positive m zero l = absurd (omega arith)
+positive m (suc b) l = (suc m * suc b - 1, omega (arith, suc-mul m (suc b)))
+
+sides : (s : Bool) (a b : ℕ) → 0 < b → (n : ℤ) → Sides s a b n
+sides false a b B (pos m) = inl (m, (refl, same-side (m * b) a))
+sides false a b B (negsuc m) =
+    let p = positive m b B in
+    inr (m, ap (λ z. natAbs (negℤ (pos z) -ℤ pos a)) (p .1) ∙ other-side (p .0) a ∙ ap (λ z. z + a) (sym (p .1)))
+sides true a b B (pos zero) = inl (0, (refl, other-side-above (0 * b) a ∙ omega arith))
+sides true a b B (pos (suc m)) = inr (m, other-side-above (suc m * b) a)
+sides true a b B (negsuc m) =
+    let p = positive m b B in
+    inl (suc m, (refl, ap (λ z. natAbs (negℤ (pos z) -ℤ negℤ (pos a))) (p .1) ∙ same-side-below (p .0) a ∙ ap (λ z. between z a) (sym (p .1))))
+
+-- The rounded fraction with its sign.
+own : (s : Bool) (a b w : ℕ) → 0 < b → far s a b (signed s w) ≡ between (w * b) a
+own false a b w B = same-side (w * b) a
+own true a b zero B = other-side-above (0 * b) a ∙ omega arith
+own true a b (suc w) B =
+    let p = positive w b B in
+    ap (λ z. natAbs (negℤ (pos z) -ℤ negℤ (pos a))) (p .1) ∙ same-side-below (p .0) a ∙ ap (λ z. between z a) (sym (p .1))
+
+-- Two whole numbers lie a whole apart.
+gap : (m n b : ℕ) → m < n → m * b + b ≤ n * b
+gap m n b l = rw (← suc-mul m b) (mul-le-mul-right b l)
+
+module _ (a b w : ℕ) (B : 0 < b) (h : Half w a b) where
+  near : (m : ℕ) → between (w * b) a ≤ between (m * b) a
+  near m = go (decLt m w) (decLt w m)
+    where
+      go : Dec (m < w) → Dec (w < m) → between (w * b) a ≤ between (m * b) a
+      go (yes l) q = let g = gap m w b l in omega arith
+      go (no l) (yes k) = let g = gap w m b k in omega arith
+      go (no l) (no k) = let e : m ≡ w = omega arith in rw e (omega arith)
+
+  tied : (m : ℕ) → between (m * b) a ≡ between (w * b) a → (m ≡ w → ⊥) → (w * b * 2 ≡ a * 2 + b) ⊎ (a * 2 ≡ w * b * 2 + b)
+  tied m t d = go (decLt m w)
+    where
+      go : Dec (m < w) → (w * b * 2 ≡ a * 2 + b) ⊎ (a * 2 ≡ w * b * 2 + b)
+      go (yes l) = let g = gap m w b l in inl (omega arith)
+      go (no l) =
+          let k : w < m = go′ (decLt w m) in
+          let g = gap w m b k in
+          inr (omega arith)
+        where
+          go′ : Dec (w < m) → w < m
+          go′ (yes k) = k
+          go′ (no k) = absurd (d (omega arith))
+
+module _ (s : Bool) (a b : ℕ) (B : 0 < b) where
+  -- The rounded fraction is at least as near as n,
+  far-least : (n : ℤ) → far s a b (signed s (rounded a b)) ≤ far s a b n
+  far-least n = rw (own s a b (rounded a b) B) (go (sides s a b B n))
+    where
+      go : Sides s a b n → between (rounded a b * b) a ≤ far s a b n
+      go (inl (m, (e, f))) = rw f (near a b (rounded a b) B (rounded-half a b B) m)
+      go (inr (m, f)) =
+          let h = rounded-half a b B in
+          let g : suc m * b ≡ m * b + b = suc-mul m b in
+          rw f (omega arith)
+
+  -- and even where another n is as near.
+  far-even : (n : ℤ) → far s a b n ≡ far s a b (signed s (rounded a b)) → (n ≡ signed s (rounded a b) → ⊥) → rounded a b % 2 ≡ 0
+  far-even n t d = go (sides s a b B n)
+    where
+      go : Sides s a b n → rounded a b % 2 ≡ 0
+      go (inl (m, (e, f))) =
+          rounded-even a b B
+          (tied a b (rounded a b) B (rounded-half a b B) m (sym f ∙ t ∙ own s a b (rounded a b) B) (λ q. d (e ∙ ap (signed s) q)))
+      go (inr (m, f)) =
+          let h = rounded-half a b B in
+          let g : suc m * b ≡ m * b + b = suc-mul m b in
+          let u : between (rounded a b * b) a ≡ suc m * b + a = sym (own s a b (rounded a b) B) ∙ sym t ∙ f in
+          absurd (omega arith)
+
+-- ---- the theorem
+
+-- The steps of a finite number, with its sign, are at least as near to k times the number as any whole number n.
+pub steps-nearest : (k : ℕ) (x : Float) → T (finite x) → (n : ℤ) → apart k x (signed (isNegative x) (steps k x)) ≤ apart k x n
+steps-nearest k nan h n = absurd h
+steps-nearest k (inf s) h n = absurd h
+steps-nearest k (fin s m e) h n = far-least s (k * (m * up e)) (down e) (down-pos e) n
+
+-- Where another whole number is as near, the steps are even.
+pub steps-even : (k : ℕ) (x : Float) → T (finite x) → (n : ℤ) → apart k x n ≡ apart k x (signed (isNegative x) (steps k x))
+    → (n ≡ signed (isNegative x) (steps k x) → ⊥) → steps k x % 2 ≡ 0
+steps-even k nan h n t d = absurd h
+steps-even k (inf s) h n t d = absurd h
+steps-even k (fin s m e) h n t d = far-even s (k * (m * up e)) (down e) (down-pos e) n t d

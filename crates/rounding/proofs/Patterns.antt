@@ -1,0 +1,182 @@
+-- The bit patterns of binary32, and the limited size of the number that each stands for. Assumes nothing.
+-- A pattern is a sign, an exponent field of eight bits and 23 digits: 2147483648 is 2 ^ 31 and 8388608 is 2 ^ 23.
+use mathlib.Core.Path.{_≡_, refl, sym, ap, _∙_, subst}
+use Prim.Native.Nat.{ℕ, zero, suc, _+_, _-_, _*_, _/_, _%_, _^_, min, _≤_, _<_}
+use native.Mathlib.Nat.{le-trans, le-of-eq, lt-of-lt-of-le, not-le-of-lt, mod-eq-of-lt, mul-assoc, one-mul, mul-le-mul, mul-lt-mul-of-pos-right, eq-or-lt-of-le}
+use native.Mathlib.Omega.{arith}
+use mathlib.Core.Bool.{Bool, true, false, cond, not}
+use mathlib.Core.Logic.{inl, inr}
+use lib.Dec.{T, lit≤, nltb→le, leb, eqb, leb→le, eqb→eq, not-T}
+use lib.Pow.{pow-pos, pow-mono, pow-add, shl-lt, shl-exact}
+use lib.Ieee.{Float, nan, inf, binary32, odd, ofFields, ofBits, toBits, fits, isNan}
+use lib.Ieee.Bits.{is-false, cond-no, ofBits-toBits, toBits-lt, nanBits-is, nanBits-above}
+use lib.Ieee.Exact.{HasValue, odd-sign}
+use Rattle.rounding.specs.Rounding.{rounded, limited, isNegative}
+use Rattle.rounding.proofs.Rounded.{odd-negative, limited-of, rounded-same, to-zero, at-limit}
+
+-- ---- the fields of a pattern
+
+pub ofBits-is : (b : ℕ) → ofBits binary32 b ≡ ofFields binary32 (leb 2147483648 b) (b % 2147483648 / 8388608) (b % 8388608)
+unfolding ofBits
+ofBits-is b = refl
+
+-- Those of a pattern with no sign; 2139095040 is the pattern of infinity.
+fields-of : (n : ℕ) → n ≤ 2139095040 → ofBits binary32 n ≡ ofFields binary32 false (n / 8388608) (n % 8388608)
+fields-of n h =
+    let l : n < 2147483648 = omega arith in
+    ofBits-is n
+    ∙ ap (λ s. ofFields binary32 s (n % 2147483648 / 8388608) (n % 8388608)) (is-false (leb 2147483648 n) (not-T (leb 2147483648 n) (λ (u : T (leb 2147483648 n)). not-le-of-lt l (leb→le 2147483648 n u))))
+    ∙ ap (λ x. ofFields binary32 false (x / 8388608) (n % 8388608)) (mod-eq-of-lt l)
+
+-- Below the field of all ones a pattern is a number.
+differ : (x : ℕ) → suc x < 255 → suc x ≡ 255 → ⊥
+differ x h e = omega arith
+
+under-ones : (s : Bool) (t x : ℕ) → suc x < 255 → ofFields binary32 s (suc x) t ≡ odd 24 s (8388608 + t) x 149
+unfolding ofFields
+under-ones s t x h = cond-no (eqb (suc x) 255) (cond (eqb t 0) (inf s) nan) (odd 24 s (8388608 + t) x 149) (not-T (eqb (suc x) 255) (λ (u : T (eqb (suc x) 255)). differ x h (eqb→eq (suc x) 255 u)))
+
+-- The number of field x and digits t, in units of 2 ^ -149.
+abbrev val : ℕ → ℕ → ℕ
+val zero t = t
+val (suc x) t = (8388608 + t) * 2 ^ x
+
+value : (s : Bool) (x t : ℕ) → x < 255 → HasValue (ofFields binary32 s x t) s (val x t) (2 ^ 149)
+unfolding ofFields
+value s zero t h = subst (λ v. HasValue (odd 24 s t 0 149) s v (2 ^ 149)) (omega arith) (odd-sign 24 s t 0 149)
+value s (suc x) t h = subst (λ v. HasValue v s ((8388608 + t) * 2 ^ x) (2 ^ 149)) (sym (under-ones s t x h)) (odd-sign 24 s (8388608 + t) x 149)
+
+limited-val : (x t : ℕ) → x < 255 → limited 1 (ofFields binary32 false x t) ≡ min 127 (rounded (val x t) (2 ^ 149))
+limited-val x t h =
+    limited-of 1 (ofFields binary32 false x t) false (val x t) (2 ^ 149) (pow-pos 149) (value false x t h)
+    ∙ ap (λ v. min 127 (rounded v (2 ^ 149))) (one-mul (val x t))
+
+-- ---- below a half, from 128 on, and between
+
+no-zero : (k : ℕ) → suc k ≤ 0 → ⊥
+no-zero k h = omega arith
+
+val-low : (x t : ℕ) → x < 126 → t < 8388608 → val x t * 2 < 2 ^ 149
+val-low zero t h l = lt-of-lt-of-le (twice t l) (pow-mono {i = 24} {j = 149} (omega arith))
+  where
+    twice : (t : ℕ) → t < 8388608 → t * 2 < 16777216
+    twice t l = omega arith
+val-low (suc x) t h l =
+    let d : 8388608 + t < 2 ^ 24 = omega arith in
+    let i : 24 + x ≤ 148 = omega arith in
+    mul-lt-mul-of-pos-right (lt-of-lt-of-le (shl-lt 24 x d) (pow-mono {i = 24 + x} {j = 148} i)) (pow-pos 1)
+
+val-high : (x t : ℕ) → 134 ≤ x → 127 * 2 ^ 149 ≤ val x t
+val-high zero t h = absurd (no-zero 133 h)
+val-high (suc x) t h =
+    let i : 133 ≤ x = omega arith in
+    let d : 8388608 ≤ 8388608 + t = omega arith in
+    le-trans (lit≤ tt) (mul-le-mul d (pow-mono {i = 133} {j = x} i))
+
+val-mid : (x t : ℕ) → 126 ≤ x → x < 134 → val x t * 2 ^ 24 ≡ (t + 8388608) * 2 ^ (x - 126) * 2 ^ 149
+val-mid zero t h k = absurd (no-zero 125 h)
+val-mid (suc x) t h k =
+    let e : x ≡ (suc x - 126) + 125 = omega arith in
+    let p : 2 ^ x ≡ 2 ^ (suc x - 126) * 2 ^ 125 = ap (λ z. 2 ^ z) e ∙ pow-add 2 (suc x - 126) 125 in
+    let c : 8388608 + t ≡ t + 8388608 = omega arith in
+    ap (λ z. z * 2 ^ x * 2 ^ 24) c
+    ∙ ap (λ z. (t + 8388608) * z * 2 ^ 24) p
+    ∙ ap (λ z. z * 2 ^ 24) (sym (mul-assoc (t + 8388608) (2 ^ (suc x - 126)) (2 ^ 125)))
+    ∙ mul-assoc ((t + 8388608) * 2 ^ (suc x - 126)) (2 ^ 125) (2 ^ 24)
+
+pub limited-low : (n : ℕ) → n ≤ 2139095040 → n / 8388608 < 126 → limited 1 (ofBits binary32 n) ≡ 0
+limited-low n h l =
+    ap (limited 1) (fields-of n h)
+    ∙ limited-val (n / 8388608) (n % 8388608) (omega arith)
+    ∙ ap (min 127) (to-zero (val (n / 8388608) (n % 8388608)) (2 ^ 149) (val-low (n / 8388608) (n % 8388608) l (omega arith)))
+
+at-ones : (s : Bool) (t x : ℕ) → x ≡ 255 → t ≡ 0 → ofFields binary32 s x t ≡ inf s
+at-ones s t x e z = ap (λ y. ofFields binary32 s y t) e ∙ ap (λ y. ofFields binary32 s 255 y) z ∙ (unfold ofFields in refl)
+
+pub limited-high : (n : ℕ) → n ≤ 2139095040 → 134 ≤ n / 8388608 → limited 1 (ofBits binary32 n) ≡ 127
+limited-high n h l = ap (limited 1) (fields-of n h) ∙ go (n / 8388608) (n % 8388608) l (λ k. omega arith) (omega arith)
+  where
+    go : (x t : ℕ) → 134 ≤ x → (255 ≤ x → (x ≡ 255) × (t ≡ 0)) → x ≤ 255 → limited 1 (ofFields binary32 false x t) ≡ 127
+    go x t l k m = elim (eq-or-lt-of-le m) [
+      | inl e ↦ ap (limited 1) (at-ones false t x e (k (le-of-eq (sym e)) .1))
+      | inr i ↦ limited-val x t i ∙ at-limit (val x t) (2 ^ 149) (pow-pos 149) (val-high x t l)
+    ]
+
+pub limited-mid : (n : ℕ) → n ≤ 2139095040 → 126 ≤ n / 8388608 → n / 8388608 < 134
+    → limited 1 (ofBits binary32 n) ≡ min 127 (rounded ((n % 8388608 + 8388608) * 2 ^ (n / 8388608 - 126)) 16777216)
+limited-mid n h l k =
+    let x = n / 8388608 in
+    let t = n % 8388608 in
+    ap (limited 1) (fields-of n h)
+    ∙ limited-val x t (omega arith)
+    ∙ ap (min 127) (rounded-same (val x t) (2 ^ 149) ((t + 8388608) * 2 ^ (x - 126)) 16777216 (pow-pos 149) (pow-pos 24) (val-mid x t l k))
+
+-- The shift loses nothing,
+pub shifted : (n : ℕ) → 126 ≤ n / 8388608 → n / 8388608 < 134
+    → (n % 8388608 + 8388608) * 2 ^ (n / 8388608 - 126) % 2 ^ 32 ≡ (n % 8388608 + 8388608) * 2 ^ (n / 8388608 - 126)
+shifted n l k = shl-exact 24 (n / 8388608 - 126) 32 (omega arith) (omega arith)
+
+-- and stays below 2 ^ 31.
+pub shifted-lt : (n : ℕ) → 126 ≤ n / 8388608 → n / 8388608 < 134 → (n % 8388608 + 8388608) * 2 ^ (n / 8388608 - 126) % 2 ^ 32 < 2147483648
+shifted-lt n l k =
+    rw (shifted n l k) (lt-of-lt-of-le (shl-lt 24 (n / 8388608 - 126) (omega arith)) (pow-mono {i = 24 + (n / 8388608 - 126)} {j = 31} (omega arith)))
+
+-- ---- a pattern with its sign taken off
+
+twice-mod : (b : ℕ) → b % 2147483648 % 2147483648 ≡ b % 2147483648
+twice-mod b = omega arith
+
+mod-mod : (b : ℕ) → b % 2147483648 % 8388608 ≡ b % 8388608
+mod-mod b = omega arith
+
+odd-limited : (k d : ℕ) (s s' : Bool) (q j l : ℕ) → limited k (odd d s q j l) ≡ limited k (odd d s' q j l)
+unfolding odd
+odd-limited k d s s' zero j l = refl
+odd-limited k d s s' (suc q) j l = refl
+
+fields-limited : (k : ℕ) (s s' : Bool) (x t : ℕ) → limited k (ofFields binary32 s x t) ≡ limited k (ofFields binary32 s' x t)
+unfolding ofFields
+fields-limited k s s' zero t = odd-limited k 24 s s' t 0 149
+fields-limited k s s' (suc x) t = go (eqb (suc x) 255) (eqb t 0)
+  where
+    go : (a b : Bool) → limited k (cond a (cond b (inf s) nan) (odd 24 s (8388608 + t) x 149)) ≡ limited k (cond a (cond b (inf s') nan) (odd 24 s' (8388608 + t) x 149))
+    go true true = refl
+    go true false = refl
+    go false b = odd-limited k 24 s s' (8388608 + t) x 149
+
+fields-negative : (s : Bool) (x t : ℕ) → T (not (isNan (ofFields binary32 s x t))) → isNegative (ofFields binary32 s x t) ≡ s
+unfolding ofFields isNan
+fields-negative s zero t n = odd-negative 24 s t 0 149
+fields-negative s (suc x) t n = go (eqb (suc x) 255) (eqb t 0) n
+  where
+    go : (a b : Bool) → T (not (isNan (cond a (cond b (inf s) nan) (odd 24 s (8388608 + t) x 149)))) → isNegative (cond a (cond b (inf s) nan) (odd 24 s (8388608 + t) x 149)) ≡ s
+    go true true n = refl
+    go true false n = absurd n
+    go false b n = odd-negative 24 s (8388608 + t) x 149
+
+-- What the pattern of a number says of it.
+module _ (p : Float) (held : T (fits binary32 p)) where
+  pub limited-bits : (k : ℕ) → limited k (ofBits binary32 (toBits binary32 p % 2147483648)) ≡ limited k p
+  limited-bits k =
+      let b = toBits binary32 p in
+      ap (limited k) (ofBits-is (b % 2147483648))
+      ∙ ap (λ x. limited k (ofFields binary32 (leb 2147483648 (b % 2147483648)) (x / 8388608) (b % 2147483648 % 8388608))) (twice-mod b)
+      ∙ ap (λ x. limited k (ofFields binary32 (leb 2147483648 (b % 2147483648)) (b % 2147483648 / 8388608) x)) (mod-mod b)
+      ∙ fields-limited k (leb 2147483648 (b % 2147483648)) (leb 2147483648 b) (b % 2147483648 / 8388608) (b % 8388608)
+      ∙ ap (limited k) (sym (ofBits-is b) ∙ ofBits-toBits binary32 p held)
+
+  pub pattern-le : T (not (isNan p)) → toBits binary32 p % 2147483648 ≤ 2139095040
+  pattern-le n =
+      let b = toBits binary32 p in
+      nltb→le 2139095040 (b % 2147483648)
+      (subst (λ v. T (not v)) (ap isNan (sym (ofBits-toBits binary32 p held)) ∙ sym (nanBits-is binary32 b) ∙ nanBits-above binary32 b) n)
+
+  pub negative-bits : T (not (isNan p)) → isNegative p ≡ leb 2147483648 (toBits binary32 p)
+  negative-bits n =
+      let b = toBits binary32 p in
+      let e : p ≡ ofFields binary32 (leb 2147483648 b) (b % 2147483648 / 8388608) (b % 8388608) = sym (ofBits-toBits binary32 p held) ∙ ofBits-is b in
+      ap isNegative e
+      ∙ fields-negative (leb 2147483648 b) (b % 2147483648 / 8388608) (b % 8388608) (subst (λ v. T (not (isNan v))) e n)
+
+  pub pattern-lt : toBits binary32 p < 4294967296
+  pattern-lt = toBits-lt binary32 p held

@@ -1,0 +1,39 @@
+-- The nearest whole number of steps to a binary32 number, and the soft value of it. Assumes nothing.
+-- A finite number is `fin s m e`: m * 2 ^ e, negative where s is true. Its power 2 ^ e is the fraction up e / down e.
+use mathlib.Core.Bool.{Bool, true, false}
+use Prim.Native.Nat.{ℕ, suc, _+_, _*_, _/_, _%_, min, compare, Ordering·lt, Ordering·eq, Ordering·gt}
+use lib.IntN.{ℤ, pos, negℤ}
+use lib.Ieee.{Float, nan, inf, fin, up, down}
+
+-- The rounding: the whole number nearest to a / b, for a b above 0. A half goes to the even neighbour.
+unfoldable pub rounded : ℕ → ℕ → ℕ
+rounded a b =
+    let q = a / b in
+    elim (compare (a % b * 2) b) [ Ordering·lt ↦ q | Ordering·eq ↦ q + q % 2 | Ordering·gt ↦ suc q ]
+
+-- The size of a number in steps of 1 / k, to the nearest whole number of them. An infinity, which is what a product that
+-- overflows gives, stands at the limit. A NaN has no size, and no job asks for it.
+abbrev pub steps : ℕ → Float → ℕ
+steps k nan = 0
+steps k (inf s) = 127
+steps k (fin s m e) = rounded (k * (m * up e)) (down e)
+
+-- The same, limited to 127.
+abbrev pub limited : ℕ → Float → ℕ
+limited k x = min 127 (steps k x)
+
+-- Whether a number has the minus sign.
+abbrev pub isNegative : Float → Bool
+isNegative nan = false
+isNegative (inf s) = s
+isNegative (fin s m e) = s
+
+-- n, or minus n where s is true.
+abbrev pub signed : Bool → ℕ → ℤ
+signed true n = negℤ (pos n)
+signed false n = pos n
+
+-- The soft value of an amplitude, the paper's value of it: the amplitude times k, to the nearest whole number, then to the
+-- range -127 to 127. Minus zero gives 0.
+abbrev pub softValue : ℕ → Float → ℤ
+softValue k x = signed (isNegative x) (limited k x)
