@@ -7,6 +7,7 @@ ghost use Rattle.order.specs.Jobs.{informationMask};
 ghost use Rattle.frame.specs.Jobs.{frameEncode, frameUndo};
 ghost use Rattle.follow.specs.Jobs.{kernelFollow};
 ghost use Rattle.decode.specs.Jobs.{frameFollow, frameDecode};
+ghost use Rattle.quantiser.specs.Jobs.{valuesFromMarks};
 ghost use Rattle.link.specs.Outcomes.{outcomeOf, outcomeWith, outcomeWithTwo, outcomeWithThree, wordOutcomeOf};
 use answer::Answer;
 
@@ -154,5 +155,18 @@ pub extern "C" fn nospridda_frame_decode(
     ensures { λ r. ⌜ outcomeWithThree (frameDecode inner outer (now (values .entry)) (now (mask .entry)) (now (scores .entry)) (now (penalties .entry)) (now (payload .entry))) ≡ (r, now (scores .exit), now (penalties .exit), now (payload .exit)) ⌝ }
 {
     let a = decode::frame_decode(inner, outer, values, mask, scores, penalties, payload);
+    outcome_of(a)
+}
+
+// Values from marks: the channel values of the amplitudes of 128 marks.
+#[no_mangle]
+pub extern "C" fn nospridda_values_from_marks(
+    amplitudes: &[f32],
+    blanked: &[u8],
+    values: &mut [i8],
+) -> Outcome
+    ensures { λ r. ⌜ outcomeWith (valuesFromMarks (now (amplitudes .entry)) (now (blanked .entry)) (now (values .entry))) ≡ (r, now (values .exit)) ⌝ }
+{
+    let a = quantiser::values_from_marks(amplitudes, blanked, values);
     outcome_of(a)
 }

@@ -1,0 +1,24 @@
+-- `quantiser::nearest` meets its contract. Assumes nothing.
+use native.Mathlib.Omega.{arith}
+use Rattle.rounding.proofs.Rounded.{rounded-sum}
+use borrow.Author.Needs.{needs}
+use Rattle.quantiser.proofs.nearest.Statement.{statement}
+use Rattle.quantiser.proofs.nearest.Tie as tie
+
+add-n : tie.Need-add-n
+add-n c = search needs
+
+add-n-2 : tie.Need-add-n-2
+add-n-2 c = search needs
+
+cast-result : tie.Need-cast-result
+cast-result c = search needs
+
+returns : tie.Need-returns
+returns c = let e = rounded-sum (c .before .args .w) in omega arith
+
+returns-2 : tie.Need-returns-2
+returns-2 c = let e = rounded-sum (c .before .args .w) in omega arith
+
+pub nearest-spec : {M : Type 1} → statement M
+nearest-spec = tie.close (tie.spec add-n add-n-2 cast-result returns returns-2)

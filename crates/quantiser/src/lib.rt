@@ -1,0 +1,194 @@
+// Values from marks: received marks to soft values.
+ghost use mathlib.Core.Path.{_≡_};
+ghost use mathlib.Core.Bool.{not};
+ghost use mathlib.Core.List.{_++_};
+ghost use Prim.Native.Nat.{ℕ, min, _≤_, _<_};
+ghost use lib.Dec.{T};
+ghost use lib.Ieee.{binary32, isNan, ofBits};
+ghost use lib.Ieee.Scale.{finite};
+ghost use lib.ListN.{length, drop};
+ghost use Rattle.base.specs.Bit.{tabulate};
+ghost use Rattle.rounding.specs.Rounding.{rounded, limited, softValue};
+ghost use Rattle.answer.specs.Verdict.{verdict, done, settle};
+ghost use Rattle.quantiser.specs.Marks.{markAt, offends, valueOf, pairOf, lowest, firstNotFinite, Sound, valueAt};
+ghost use Rattle.quantiser.specs.Jobs.{marksChecks, valuesFromMarks};
+use answer::Answer;
+
+// A heard mark's I and Q amplitudes, together as one symbol.
+pub struct Symbol {
+    pub i: f32,
+    pub q: f32,
+}
+
+// A received mark: heard, with two amplitudes, or blanked, with none.
+pub enum Mark {
+    Heard(Symbol),
+    Blanked,
+}
+
+// The two soft values of a mark.
+pub struct Pair {
+    pub i: i8,
+    pub q: i8,
+}
+
+// w / 2^24 to the nearest whole number, limited to 127: less than a half is added, and a half where the whole part is odd.
+fn nearest(w: u32) -> u8
+    requires { ⌜ w < 2147483648 ⌝ }
+    ensures { λ r. ⌜ r ≡ min 127 (rounded w 16777216) ⌝ }
+{
+    let n = (w + 8388607 + w / 16777216 % 2) / 16777216;
+    if n < 127 { n as u8 } else { 127 }
+}
+
+// The limited size of the number whose pattern, without its sign, is given.
+fn magnitude(pattern: u32) -> u8
+    requires { ⌜ pattern ≤ 2139095040 ⌝ }
+    ensures { λ r. ⌜ r ≡ limited 1 (ofBits binary32 pattern) ⌝ }
+{
+    let field = pattern / 8388608;
+    if field < 126 {
+        return 0;
+    }
+    if field >= 134 {
+        return 127;
+    }
+    let digits = pattern % 8388608 + 8388608;
+    nearest(digits << (field - 126))
+}
+
+// The soft value of a product.
+fn nearest_limited(p: f32) -> i8
+    requires { ⌜ T (not (isNan p)) ⌝ }
+    ensures { λ r. ⌜ r ≡ softValue 1 p ⌝ }
+{
+    let pattern = f32::to_bits(p);
+    if pattern < 2147483648 {
+        magnitude(pattern) as i8
+    } else {
+        0 - (magnitude(pattern - 2147483648) as i8)
+    }
+}
+
+// The soft value of an amplitude.
+fn quantise(x: f32) -> i8
+    requires { ⌜ T (finite x) ⌝ }
+    ensures { λ r. ⌜ r ≡ softValue 32 x ⌝ }
+{
+    nearest_limited(x * 32.0)
+}
+
+// Whether a number is neither a NaN nor infinite.
+fn is_finite(x: f32) -> bool
+    ensures { λ r. ⌜ r ≡ finite x ⌝ }
+{
+    if x < 1.0 / 0.0 { -1.0 / 0.0 < x } else { false }
+}
+
+// Mark n of a request.
+fn mark_at(amplitudes: &[f32], blanked: &[u8], n: usize) -> Mark
+    requires { ⌜ (length (now amplitudes) ≡ 256) × (length (now blanked) ≡ 16) × (n < 128) ⌝ }
+    ensures { λ r. ⌜ r ≡ markAt (now (amplitudes .entry)) (now (blanked .entry)) n ⌝ }
+{
+    if bits::bit(blanked, n) {
+        return Mark::Blanked;
+    }
+    let i = amplitudes[2 * n];
+    let q = amplitudes[2 * n + 1];
+    Mark::Heard(Symbol { i, q })
+}
+
+// The two soft values of a mark.
+fn values_of(m: Mark) -> Pair
+    requires { ⌜ Sound m ⌝ }
+    ensures { λ r. ⌜ r ≡ pairOf m ⌝ }
+{
+    match m {
+        Mark::Heard(s) => {
+            let i = quantise(s.i);
+            let q = quantise(s.q);
+            Pair { i, q }
+        }
+        Mark::Blanked => Pair { i: 0, q: 0 },
+    }
+}
+
+// Which of a mark's amplitudes is the first that is not finite: 0 for I, 1 for Q, 2 for neither.
+fn offending(m: Mark) -> usize
+    ensures { λ r. ⌜ r ≡ lowest 2 (offends m) ⌝ }
+{
+    match m {
+        Mark::Heard(s) => {
+            if !is_finite(s.i) {
+                return 0;
+            }
+            if is_finite(s.q) { 2 } else { 1 }
+        }
+        Mark::Blanked => 2,
+    }
+}
+
+// The lowest amplitude of a heard mark that is not finite, or 256.
+fn first_not_finite(amplitudes: &[f32], blanked: &[u8]) -> usize
+    requires { ⌜ (length (now amplitudes) ≡ 256) × (length (now blanked) ≡ 16) ⌝ }
+    ensures { λ r. ⌜ r ≡ firstNotFinite (now (amplitudes .entry)) (now (blanked .entry)) ⌝ }
+{
+    let mut n: usize = 0;
+    while n < 128 {
+        let side = offending(mark_at(amplitudes, blanked, n));
+        if side < 2 {
+            return 2 * n + side;
+        }
+        n += 1;
+    }
+    256
+}
+
+// Writes the soft values of all marks.
+fn store_values(amplitudes: &[f32], blanked: &[u8], values: &mut [i8])
+    requires { ⌜ (length (now amplitudes) ≡ 256) × (length (now blanked) ≡ 16) × (256 ≤ length (now values)) ⌝ }
+    requires { ⌜ firstNotFinite (now amplitudes) (now blanked) ≡ 256 ⌝ }
+    ensures { λ _. ⌜ now (values .exit) ≡ tabulate 256 (valueAt (now (amplitudes .entry)) (now (blanked .entry))) ++ drop 256 (now (values .entry)) ⌝ }
+{
+    let mut n: usize = 0;
+    while n < 128 {
+        let pair = values_of(mark_at(amplitudes, blanked, n));
+        let i = pair.i;
+        let q = pair.q;
+        values[2 * n] = i;
+        values[2 * n + 1] = q;
+        n += 1;
+    }
+}
+
+// The checks of values from marks, in checking order.
+fn marks_check(amplitudes: &[f32], blanked: &[u8], room: usize) -> Answer
+    ensures { λ r. ⌜ verdict r ≡ settle (marksChecks (now (amplitudes .entry)) (now (blanked .entry)) room) done ⌝ }
+{
+    if amplitudes.len() != 256 {
+        return Answer::WrongLength;
+    }
+    if blanked.len() != 16 {
+        return Answer::WrongLength;
+    }
+    if room < 256 {
+        return Answer::ShortOutput;
+    }
+    let place = first_not_finite(amplitudes, blanked);
+    if place < 256 {
+        return Answer::NotFinite(place);
+    }
+    Answer::Done
+}
+
+// Values from marks: 128 received marks to 256 soft values.
+pub fn values_from_marks(amplitudes: &[f32], blanked: &[u8], values: &mut [i8]) -> Answer
+    ensures { λ r. ⌜ valuesFromMarks (now (amplitudes .entry)) (now (blanked .entry)) (now (values .entry)) ≡ (verdict r, now (values .exit)) ⌝ }
+{
+    let answer = marks_check(amplitudes, blanked, values.len());
+    if !answer::accepted(answer) {
+        return answer;
+    }
+    store_values(amplitudes, blanked, values);
+    Answer::Done
+}
