@@ -6,6 +6,7 @@ use Prim.Native.Nat.{ℕ}
 use native.Mathlib.Omega.{arith}
 use borrow.Author.Tests.{eqb-true}
 use lib.Dec.{eqb}
+use lib.Ieee.{fin, binary32, fits}
 use lib.IntN.{ℤ, pos, negsuc}
 use lib.ListN.{getD, replicate}
 use Rattle.base.specs.Bit.{tabulate, parity, every}
@@ -27,9 +28,13 @@ use Rattle.order.specs.Jobs.{informationChecks}
 use Rattle.order.proofs.Accepted
 use Rattle.windows.specs.Windows.{windows, solutions}
 use Rattle.follow.specs.Jobs.{followChecks}
+use Rattle.quantiser.specs.Marks.{valueAt, notFinite, firstNotFinite, lowest}
+use Rattle.quantiser.specs.Jobs.{marksChecks}
+use Rattle.quantiser.proofs.Accepted as Quantised
+use Rattle.rounding.specs.Rounding.{rounded}
 use Rattle.follow.proofs.Accepted.{accepted, accepted-job}
 use Rattle.profiles.proofs.Computed.{pathBy, leastBy, scoresBy, scores-by}
-use Rattle.cases.specs.Cases.{Case, encoding, following, masking, Holds, starred, AllHold}
+use Rattle.cases.specs.Cases.{Case, encoding, following, masking, quantising, Holds, starred, AllHold}
 
 -- Whether two scores are the same.
 unfoldable sameScore : ℤ → ℤ → Bool
@@ -67,6 +72,11 @@ test (encoding k s w) = isKernel k && eqb (rowSum (getD table k []) (number (uni
 test (following k value scores) =
     isAccepted (settle (followChecks k (replicate 16 value) 16) done) && sameList sameScore (scoresBy k (channel (replicate 16 value)) (bits 16 0)) scores
 test (masking p phases) = isAccepted (settle (informationChecks p 32) done) && sameList eqb (markedPhases (informationBits p)) phases
+test (quantising m e value) =
+    let xs = replicate 256 (fin false m e) in
+    fits binary32 (fin false m e)
+    && isAccepted (settle (marksChecks xs (replicate 16 0) 256) done)
+    && sameList sameScore (tabulate 256 (valueAt xs (replicate 16 0))) (replicate 256 value)
 
 shown : (c : Case) → test c ≡ true → Holds c
 unfolding test
@@ -86,6 +96,13 @@ shown (masking p phases) t =
     let back : unpack (pack 32 (informationBits p) ++ []) ≡ informationBits p =
     ap unpack (append-nil (pack 32 (informationBits p))) ∙ unpack-pack 32 (informationBits p) (Accepted.length-information p) in
     (ap (λ r. r .0) job, ap (λ r. markedPhases (unpack (r .1))) job ∙ ap markedPhases back ∙ list-eq eqb eqb-true _ phases (h .1))
+shown (quantising m e value) t =
+    let x = fin false m e in
+    let xs = replicate 256 x in
+    let h = (and-eq-true-iff (fits binary32 x && isAccepted (settle (marksChecks xs (replicate 16 0) 256) done)) _) .0 t in
+    let g = (and-eq-true-iff (fits binary32 x) _) .0 (h .0) in
+    let job = Quantised.accepted-job xs (replicate 16 0) (replicate 256 (pos 0)) (g .1) in
+    (g .0, job ∙ ap (λ (l : List ℤ). (done, l)) (append-nil (tabulate 256 (valueAt xs (replicate 16 0))) ∙ list-eq sameScore score-eq _ (replicate 256 value) (h .1)))
 
 unfoldable tests : List Case → Bool
 tests [] = true
@@ -99,5 +116,5 @@ all-shown (c ∷ cs) t =
     (shown c (h .0), all-shown cs (h .1))
 
 pub starred-hold : AllHold starred
-unfolding tests test isKernel chosenSum bits number tabulate parity sameScore sameList followChecks firstOutside scoresBy leastBy pathBy leastTo windows solutions symbols sumOf folded blocks arikan every informationChecks informationBits markedPhases among order
+unfolding tests test isKernel chosenSum bits number tabulate parity sameScore sameList followChecks firstOutside scoresBy leastBy pathBy leastTo windows solutions symbols sumOf folded blocks arikan every informationChecks informationBits markedPhases among order unpack marksChecks firstNotFinite notFinite lowest valueAt rounded fits
 starred-hold = all-shown starred refl
