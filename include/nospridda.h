@@ -130,6 +130,19 @@ struct nospridda_outcome nospridda_information_mask(
     size_t p,
     uint8_t *mask, size_t mask_length);
 
+/* Values from marks: 256 amplitudes (a float is IEEE 754 binary32; 2n and 2n+1
+ * are I and Q of mark n) and a blanking mask (16 bytes, one bit for each of 128
+ * marks, 1 for a blanked one) give 256 channel values. A blanked mark gives 0
+ * and 0; its amplitudes are not looked at and may be anything. A heard
+ * amplitude times 32 goes to the nearest whole number, a half to the even
+ * neighbour, then to the range -127 to 127; minus zero gives 0. Refused by
+ * condition 2 (not 256 amplitudes, or a blanking mask that is not 16 bytes), 5
+ * (fewer than 256 values) or 7 (place: 0 to 255). */
+struct nospridda_outcome nospridda_values_from_marks(
+    const float *amplitudes, size_t amplitudes_length,
+    const uint8_t *blanked, size_t blanked_length,
+    int8_t *values, size_t values_length);
+
 #ifdef __cplusplus
 }
 #endif

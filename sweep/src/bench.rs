@@ -7,8 +7,9 @@ use std::time::Instant;
 use crate::frame::bit_of;
 use crate::library::{
     frame_decode, frame_encode, frame_undo, information_mask, kernel_encode, kernel_follow,
-    kernel_undo,
+    kernel_undo, values_from_marks,
 };
+use crate::marks::value;
 use crate::paper::Kernel;
 use crate::random::Random;
 use crate::scores::{pay, scores, totals, Values};
@@ -25,6 +26,7 @@ struct Inputs {
     values: Vec<Values>,
     mask: [u8; 32],
     payloads: Vec<[u8; PAYLOAD]>,
+    amplitudes: Vec<[f32; 256]>,
 }
 
 impl Inputs {
@@ -40,6 +42,9 @@ impl Inputs {
             mask,
             payloads: (0..INPUTS)
                 .map(|_| std::array::from_fn(|_| random.word() as u8))
+                .collect(),
+            amplitudes: (0..INPUTS)
+                .map(|_| std::array::from_fn(|_| f32::from(random.between(-4096, 4096)) / 1024.0))
                 .collect(),
         }
     }
@@ -116,6 +121,14 @@ impl Inputs {
                     black_box((&mut scores, &mut penalties, &mut payload));
                 });
             }
+            "values" => {
+                let mut values = [0; 256];
+                self.each(count, |i| {
+                    let amplitudes = &self.amplitudes[i];
+                    black_box(values_from_marks(amplitudes, &[0; 16], &mut values));
+                    black_box(&mut values);
+                });
+            }
             _ => return false,
         }
         true
@@ -141,14 +154,31 @@ fn received(word: &[u8; 32]) -> [i8; 256] {
     })
 }
 
-const JOBS: [&str; 6] = [
+const JOBS: [&str; 7] = [
     "encode",
     "undo",
     "follow",
     "frame-encode",
     "frame-undo",
     "frame-decode",
+    "values",
 ];
+
+/// The kernels that a job is timed on; a job that takes none has `-`.
+fn kernels(job: &str) -> &'static [&'static str] {
+    match job {
+        "values" => &["-"],
+        _ => &["0", "1", "2"],
+    }
+}
+
+/// The number of a kernel, 0 for `-`.
+fn number(kernel: &str) -> Option<u8> {
+    match kernel {
+        "-" => Some(0),
+        _ => kernel.parse().ok(),
+    }
+}
 
 /// Nanoseconds of one call: the least of nine rounds.
 fn nanoseconds(calls: u64, round: impl Fn()) -> f64 {
@@ -161,12 +191,13 @@ fn nanoseconds(calls: u64, round: impl Fn()) -> f64 {
         .fold(f64::INFINITY, f64::min)
 }
 
-/// One line for each job and kernel: nanoseconds of the library's call, and of the sweep's own follow.
+/// One line for each job and kernel: nanoseconds of the library's call, and of the sweep's own way.
 pub fn times() -> ExitCode {
     let inputs = Inputs::new();
     println!("job kernel ns sweep-ns");
     for job in JOBS {
-        for kernel in 0..3 {
+        for name in kernels(job) {
+            let kernel = number(name).unwrap();
             let calls = match job {
                 "encode" | "undo" => 1_000_000,
                 "frame-decode" => 500,
@@ -175,33 +206,40 @@ pub fn times() -> ExitCode {
             let library = nanoseconds(calls, || {
                 inputs.run(job, kernel, calls);
             });
-            println!("{job} {kernel} {library:.1} {}", own(&inputs, job, kernel));
+            println!("{job} {name} {library:.1} {}", own(&inputs, job, kernel));
         }
     }
     ExitCode::SUCCESS
 }
 
-/// Nanoseconds of the sweep's own follow; it has no other job to time, since its words stand in tables.
+/// Nanoseconds of the sweep's own follow and values; it has no other job to time, since its words stand in tables.
 fn own(inputs: &Inputs, job: &str, kernel: u8) -> String {
-    if job != "follow" {
-        return String::from("-");
-    }
-    let kernel = Kernel::new(kernel);
-    let time = nanoseconds(INPUTS as u64, || {
-        let mut paid = Vec::new();
-        inputs.each(INPUTS as u64, |i| {
-            totals(&kernel, &inputs.values[i], pay, &mut paid);
-            black_box(scores(&paid, inputs.words[i]));
-        });
-    });
+    let time = match job {
+        "follow" => {
+            let kernel = Kernel::new(kernel);
+            nanoseconds(INPUTS as u64, || {
+                let mut paid = Vec::new();
+                inputs.each(INPUTS as u64, |i| {
+                    totals(&kernel, &inputs.values[i], pay, &mut paid);
+                    black_box(scores(&paid, inputs.words[i]));
+                });
+            })
+        }
+        "values" => nanoseconds(INPUTS as u64, || {
+            inputs.each(INPUTS as u64, |i| {
+                black_box(inputs.amplitudes[i].map(|amplitude| value(amplitude.to_bits())));
+            });
+        }),
+        _ => return String::from("-"),
+    };
     format!("{time:.1}")
 }
 
 /// Only the calls, in a thread of their own, for tools that count their instructions or measure their stack.
 pub fn calls(job: &str, kernel: &str, count: &str) -> ExitCode {
     let inputs = Inputs::new();
-    let ran = match (kernel.parse(), count.parse()) {
-        (Ok(kernel), Ok(count)) => thread::scope(|scope| {
+    let ran = match (number(kernel), count.parse()) {
+        (Some(kernel), Ok(count)) => thread::scope(|scope| {
             let calls = scope.spawn(|| inputs.run(job, kernel, count));
             calls.join().unwrap()
         }),

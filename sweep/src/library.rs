@@ -76,6 +76,14 @@ extern "C" {
     ) -> Outcome;
     fn nospridda_part_length(mask: *const u8, mask_length: usize, length: usize) -> usize;
     fn nospridda_information_mask(p: usize, mask: *mut u8, mask_length: usize) -> Outcome;
+    fn nospridda_values_from_marks(
+        amplitudes: *const f32,
+        amplitudes_length: usize,
+        blanked: *const u8,
+        blanked_length: usize,
+        values: *mut i8,
+        values_length: usize,
+    ) -> Outcome;
 }
 
 pub fn kernel_encode(kernel: u8, symbols: u16) -> WordOutcome {
@@ -193,6 +201,20 @@ pub fn frame_decode(
             penalties.len(),
             payload.as_mut_ptr(),
             payload.len(),
+        )
+    }
+}
+
+pub fn values_from_marks(amplitudes: &[f32], blanked: &[u8], values: &mut [i8]) -> Outcome {
+    // Safe for every input, as with kernel follow.
+    unsafe {
+        nospridda_values_from_marks(
+            amplitudes.as_ptr(),
+            amplitudes.len(),
+            blanked.as_ptr(),
+            blanked.len(),
+            values.as_mut_ptr(),
+            values.len(),
         )
     }
 }

@@ -1,7 +1,8 @@
 //! The sweep: the library against code written from the paper. It ends with one line, `sweep: N cases, M wrong`, and
 //! with status 1 where a case is wrong.
 //!
-//! `sweep bench` prints times; `sweep calls JOB KERNEL COUNT` only makes calls, for a count of instructions.
+//! `sweep bench` prints times; `sweep calls JOB KERNEL COUNT` only makes calls, for a count of instructions. KERNEL is `-`
+//! for a job that takes none.
 mod bench;
 mod decoding;
 mod follow;
@@ -10,6 +11,7 @@ mod frames;
 mod kernels;
 mod layered;
 mod library;
+mod marks;
 mod paper;
 mod random;
 mod scores;
@@ -43,6 +45,7 @@ fn sweep() -> ExitCode {
     follow::sweep(&mut tally, &all);
     frames::sweep(&mut tally, &all);
     decoding::sweep(&mut tally, &all);
+    marks::sweep(&mut tally);
     if tally.end() {
         ExitCode::SUCCESS
     } else {

@@ -105,19 +105,19 @@ pub fn named(tally: &mut Tally, kernels: &[Kernel]) {
 
 /// How many cases were tried, and how many of them tell a mistake from the truth.
 #[derive(Clone, Copy, Default)]
-struct Told {
+pub struct Told {
     tried: u64,
     apart: u64,
 }
 
 impl Told {
-    fn case(&mut self, apart: bool) {
+    pub fn case(&mut self, apart: bool) {
         self.tried += 1;
         self.apart += u64::from(apart);
     }
 
     /// Some case tells the mistake.
-    fn report(&self, tally: &mut Tally, name: &str) {
+    pub fn report(&self, tally: &mut Tally, name: &str) {
         let Told { tried, apart } = self;
         tally.expect(
             *apart > 0,
