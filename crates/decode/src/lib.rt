@@ -101,6 +101,8 @@ fn run(
 {
     let shapes = follow::shapes_of(outer as usize);
     let tables = follow::tables_of(outer as usize);
+    let inner_shapes = follow::shapes_of(inner as usize);
+    let inner_tables = follow::tables_of(inner as usize);
     let kernel = kernel::kernel_rows(inner);
     let costs = outer_costs(values);
     let mut symbols = [0u16; 16];
@@ -113,7 +115,15 @@ fn run(
         let rows = layers::outer_rows(outer as usize, r, shape, tables[r], &costs, columns, kept);
         let high = shape[0] as usize;
         let found = layers::outer_scores(&rows, 1 << (high - r));
-        let row = layers::inner_row(inner as usize, found, free[r], given[r], penalty);
+        let row = layers::inner_row(
+            inner as usize,
+            &inner_shapes,
+            &inner_tables,
+            found,
+            free[r],
+            given[r],
+            penalty,
+        );
         let scored = row.scores;
         store_scores(scored, r * 16, scores);
         let paid = row.penalties;

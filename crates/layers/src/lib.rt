@@ -12,7 +12,7 @@ ghost use Rattle.bits.specs.Packed.{bits, digit};
 ghost use Rattle.polar.specs.Code.{pay};
 ghost use Rattle.folds.specs.Rows.{cell, costsOf, Within};
 ghost use Rattle.folds.specs.Range.{firstOutside};
-ghost use Rattle.windows.specs.Tables.{shapeTable, pathRows};
+ghost use Rattle.windows.specs.Tables.{shapeTable, pathTable, pathRows};
 ghost use Rattle.windows.specs.Paths.{Kept, Held, Leads};
 ghost use Rattle.layers.specs.Layers.{costsAt, before, withBit, sourced, RowOf};
 
@@ -128,13 +128,20 @@ pub struct Row {
 }
 
 // A row of sixteen symbols: at each phase the score, the symbol by its source, and what it pays.
-pub fn inner_row(kernel: usize, values: [i16; 16], free: u16, given: u16, start: u32) -> Row
+pub fn inner_row(
+    kernel: usize,
+    shapes: &[[u8; 2]; 16],
+    tables: &[[u16; 16]; 16],
+    values: [i16; 16],
+    free: u16,
+    given: u16,
+    start: u32,
+) -> Row
     requires { ⌜ (kernel < 3) × (start ≤ 32512) ⌝ }
+    requires { ⌜ (now shapes ≡ getD shapeTable kernel []) × (now tables ≡ getD pathTable kernel []) ⌝ }
     requires { ⌜ firstOutside 2047 values ≡ 16 ⌝ }
     ensures { λ r. ⌜ RowOf kernel values free given start (r .symbols) (r .scores) (r .penalties) ⌝ }
 {
-    let shapes = follow::shapes_of(kernel);
-    let tables = follow::tables_of(kernel);
     let costs = folds::cost_rows(&values);
     let mut symbols: u16 = 0;
     let mut scores = [0i16; 16];

@@ -28,17 +28,11 @@ use Rattle.layers.proofs.inner_row.Statement.{statement}
 use Rattle.layers.proofs.inner_row.Tie as tie
 
 abbrev Inv-loop : tie.InvT-loop
-Inv-loop kernel free given start shapes tables costs symbols₀ scores₀ penalties₀ kept₀ penalty₀ s₀ symbols scores penalties kept penalty s =
+Inv-loop kernel shapes tables free given start costs symbols₀ scores₀ penalties₀ kept₀ penalty₀ s₀ symbols scores penalties kept penalty s =
     Going kernel (costsOf costs) (bit (bits 16 free)) (bit (bits 16 given)) start s (bits 16 symbols) scores penalties kept penalty
 
 abbrev μ-loop : tie.MeasureT-loop
-μ-loop kernel free given start shapes tables costs symbols₀ scores₀ penalties₀ kept₀ penalty₀ s₀ symbols scores penalties kept penalty s = 16 - s
-
-shapes-of-requires : tie.Need-shapes-of-requires Inv-loop μ-loop
-shapes-of-requires c κs = search needs
-
-tables-of-requires : tie.Need-tables-of-requires Inv-loop μ-loop
-tables-of-requires c κs = search needs
+μ-loop kernel shapes tables free given start costs symbols₀ scores₀ penalties₀ kept₀ penalty₀ s₀ symbols scores penalties kept penalty s = 16 - s
 
 slice-aggregate-cost-rows : tie.Need-slice-aggregate-cost-rows Inv-loop μ-loop
 slice-aggregate-cost-rows c = search needs
@@ -48,21 +42,21 @@ cost-rows-requires c κs = search needs
 
 -- No cost exceeds 2047.
 most : (c : tie.After-cost-rows Inv-loop μ-loop) → Within 2047 (c .cost-rows .result)
-most c = c .cost-rows .ensures .1 2047 (c .before .before .before .before .pre .1)
+most c = c .cost-rows .ensures .1 2047 (c .before .before .pre .1 .1)
 
 loop-holds : tie.Need-loop-holds Inv-loop μ-loop
 loop-holds c =
-    let r = c .before .before .before .before in
+    let r = c .before .before in
     let C = kernelCode (r .args .kernel) in
     going-none (r .args .kernel) (costsOf (c .cost-rows .result)) _ _ (r .args .start)
-    (least-cong C (λ i l b. c .cost-rows .ensures .0 i b l) [] ∙ channel-nil C (kernel-code-onto (r .args .kernel)) (r .args .t2))
+    (least-cong C (λ i l b. c .cost-rows .ensures .0 i b l) [] ∙ channel-nil C (kernel-code-onto (r .args .kernel)) (r .args .t4))
     (bits 16 0) (length-bits 16 0) (zero-at 16) _ _ _ refl refl
 
 mul-shape : tie.Need-mul-shape Inv-loop μ-loop
 mul-shape c = search needs
 
-array-copy-out-shape : tie.Need-array-copy-out-shape Inv-loop μ-loop
-array-copy-out-shape c = search needs
+element-copy-out-shape : tie.Need-element-copy-out-shape Inv-loop μ-loop
+element-copy-out-shape c = search needs
 
 mul-step : tie.Need-mul-step Inv-loop μ-loop
 mul-step c = search needs
@@ -73,12 +67,12 @@ index-1-step c = search needs
 step-requires : tie.Need-step-requires Inv-loop μ-loop
 step-requires c κs =
     let l = c .before .before .before .before .before .loop in
-    let r = c .before .before .before .before .before .before .before .before .before .before in (
+    let r = c .before .before .before .before .before .before .before .before in (
       (r .pre .0 .0, search needs),
       (
         (
-          ap (λ t. getD t (l .s) []) (c .before .before .before .before .before .before .before .before .before .shapes-of .ensures),
-          ap (λ t. getD t (l .s) []) (c .before .before .before .before .before .before .before .before .tables-of .ensures),
+          ap (λ t. getD t (l .s) []) (c .before .before .before .before .before .before .before .before .pre .1 .0 .0),
+          ap (λ t. getD t (l .s) []) (c .before .before .before .before .before .before .before .before .pre .1 .0 .1),
         ),
         ((λ j d. omega (arith, most (c .before .before .before .before .before .before) j d)), l .inv .kept-so),
       ),
@@ -86,21 +80,21 @@ step-requires c κs =
 
 -- What each phase finds: the numbers of the phase are in range,
 in-phase : (c : tie.After-step Inv-loop μ-loop) → (let s = c .before .before .before .before .before .before .loop .s in
-    let shape = getD (c .before .before .before .before .before .before .before .before .before .before .shapes-of .result) s [] in
+    let shape = getD (c .before .before .before .before .before .before .before .before .before .args .shapes .now) s [] in
     (s ≤ getD shape 0 0) × (getD shape 0 0 < 16) × (getD shape 0 0 - s ≤ 4))
 in-phase c =
     let l = c .before .before .before .before .before .before .loop in
-    let r = c .before .before .before .before .before .before .before .before .before .before .before in
-    range (r .args .kernel) (r .pre .0 .0) (c .before .before .before .before .before .before .before .cost-rows .result) (most (c .before .before .before .before .before .before .before)) (l .symbols) _ (c .before .before .before .before .before .before .before .before .before .before .shapes-of .ensures) (l .s) (search needs)
+    let r = c .before .before .before .before .before .before .before .before .before in
+    range (r .args .kernel) (r .pre .0 .0) (c .before .before .before .before .before .before .before .cost-rows .result) (most (c .before .before .before .before .before .before .before)) (l .symbols) _ (c .before .before .before .before .before .before .before .before .before .pre .1 .0 .0) (l .s) (search needs)
 
 -- and the difference is the score.
 found : (c : tie.After-difference Inv-loop μ-loop) → (let l = c .before .before .before .before .before .before .before .before .loop in
-    c .difference .result ≡ score (kernelCode (c .before .before .before .before .before .before .before .before .before .before .before .before .before .args .kernel))
+    c .difference .result ≡ score (kernelCode (c .before .before .before .before .before .before .before .before .before .before .before .args .kernel))
     (costsOf (c .before .before .before .before .before .before .before .before .before .cost-rows .result)) (take (l .s) (bits 16 (l .symbols))))
 found c =
     let l = c .before .before .before .before .before .before .before .before .loop in
-    let r = c .before .before .before .before .before .before .before .before .before .before .before .before .before in
-    difference-is (r .args .kernel) (r .pre .0 .0) (c .before .before .before .before .before .before .before .before .before .cost-rows .result) (most (c .before .before .before .before .before .before .before .before .before)) (l .symbols) _ (c .before .before .before .before .before .before .before .before .before .before .before .before .shapes-of .ensures) (l .s) (search needs)
+    let r = c .before .before .before .before .before .before .before .before .before .before .before in
+    difference-is (r .args .kernel) (r .pre .0 .0) (c .before .before .before .before .before .before .before .before .before .cost-rows .result) (most (c .before .before .before .before .before .before .before .before .before)) (l .symbols) _ (c .before .before .before .before .before .before .before .before .before .before .before .pre .1 .0 .0) (l .s) (search needs)
     (c .before .before .step .result) (c .before .before .step .ensures) (c .difference .result) (c .difference .ensures)
 
 array-read-high : tie.Need-array-read-high Inv-loop μ-loop
@@ -118,8 +112,8 @@ shl-difference c = omega (arith, in-phase (c .before) .2)
 difference-requires : tie.Need-difference-requires Inv-loop μ-loop
 difference-requires c κs =
     let l = c .before .before .before .before .before .before .before .loop in
-    let r = c .before .before .before .before .before .before .before .before .before .before .before .before in
-    difference-asks (r .args .kernel) (r .pre .0 .0) (c .before .before .before .before .before .before .before .before .cost-rows .result) (most (c .before .before .before .before .before .before .before .before)) (l .symbols) _ (c .before .before .before .before .before .before .before .before .before .before .before .shapes-of .ensures) (l .s) (search needs)
+    let r = c .before .before .before .before .before .before .before .before .before .before in
+    difference-asks (r .args .kernel) (r .pre .0 .0) (c .before .before .before .before .before .before .before .before .cost-rows .result) (most (c .before .before .before .before .before .before .before .before)) (l .symbols) _ (c .before .before .before .before .before .before .before .before .before .before .pre .1 .0 .0) (l .s) (search needs)
     (c .before .step .result) (c .before .step .ensures)
 
 word-bit-requires : tie.Need-word-bit-requires Inv-loop μ-loop
@@ -139,7 +133,7 @@ paid-requires c κs =
 
 -- The symbol of the phase, by its source.
 owned : (c : tie.After-symbol-of Inv-loop μ-loop) → (let l = c .before .before .before .before .before .before .before .before .before .before .before .loop in
-    let a = c .before .before .before .before .before .before .before .before .before .before .before .before .before .before .before .before .args in
+    let a = c .before .before .before .before .before .before .before .before .before .before .before .before .before .before .args in
     c .symbol-of .result ≡ sourced (bit (bits 16 (a .free)) (l .s)) (bit (bits 16 (a .given)) (l .s)) (c .before .before .before .difference .result))
 owned c =
     own-is (c .symbol-of .result) _ _ _ _ _ (c .before .before .before .difference .result) (c .before .before .word-bit .ensures) (c .before .word-bit2 .ensures) (whole (c .before .before .before .difference .result) (record { sfits = c .before .before .before .difference .ok })) (c .symbol-of .ensures)
@@ -152,7 +146,7 @@ pays c = c .paid .ensures ∙ ap (λ y. pay y (c .before .symbol-of .result)) (w
 small : (c : tie.After-paid Inv-loop μ-loop) → (let l = c .before .before .before .before .before .before .before .before .before .before .before .before .loop in l .penalty + c .paid .result ≤ 65264)
 small c =
     let l = c .before .before .before .before .before .before .before .before .before .before .before .before .loop in
-    let r = c .before .before .before .before .before .before .before .before .before .before .before .before .before .before .before .before .before in
+    let r = c .before .before .before .before .before .before .before .before .before .before .before .before .before .before .before in
     omega (
       arith,
       pays c,
@@ -168,9 +162,9 @@ cast-scores : tie.Need-cast-scores Inv-loop μ-loop
 cast-scores c =
     let e = c .before .before .before .before in
     let l = c .before .before .before .before .before .before .before .before .before .before .before .before .loop in
-    let r = c .before .before .before .before .before .before .before .before .before .before .before .before .before .before .before .before .before in
+    let r = c .before .before .before .before .before .before .before .before .before .before .before .before .before .before .before in
     rw (toZ-ofZ (record { sfits = e .difference .ok }))
-    (score-fits (r .args .kernel) (r .pre .0 .0) (c .before .before .before .before .before .before .before .before .before .before .before .before .before .cost-rows .result) (most (c .before .before .before .before .before .before .before .before .before .before .before .before .before)) (l .symbols) _ (c .before .before .before .before .before .before .before .before .before .before .before .before .before .before .before .before .shapes-of .ensures) (l .s) (search needs)
+    (score-fits (r .args .kernel) (r .pre .0 .0) (c .before .before .before .before .before .before .before .before .before .before .before .before .before .cost-rows .result) (most (c .before .before .before .before .before .before .before .before .before .before .before .before .before)) (l .symbols) _ (c .before .before .before .before .before .before .before .before .before .before .before .before .before .before .before .pre .1 .0 .0) (l .s) (search needs)
     (c .before .before .before .before .before .before .step .result) (c .before .before .before .before .before .before .step .ensures) _ (found e))
 
 mul-scores : tie.Need-mul-scores Inv-loop μ-loop
@@ -209,10 +203,10 @@ loop-less c = search needs
 loop-again : tie.Need-loop-again Inv-loop μ-loop
 loop-again c =
     let l = c .before .before .before .before .before .before .before .before .before .before .before .before .before .before .loop in
-    let r = c .before .before .before .before .before .before .before .before .before .before .before .before .before .before .before .before .before .before .before in
+    let r = c .before .before .before .before .before .before .before .before .before .before .before .before .before .before .before .before .before in
     let e = c .before .before .before .before .before .before in
     let d = e .difference .result in
-    let f = score-fits (r .args .kernel) (r .pre .0 .0) (c .before .before .before .before .before .before .before .before .before .before .before .before .before .before .before .cost-rows .result) (most (c .before .before .before .before .before .before .before .before .before .before .before .before .before .before .before)) (l .symbols) _ (c .before .before .before .before .before .before .before .before .before .before .before .before .before .before .before .before .before .before .shapes-of .ensures) (l .s) (search needs)
+    let f = score-fits (r .args .kernel) (r .pre .0 .0) (c .before .before .before .before .before .before .before .before .before .before .before .before .before .before .before .cost-rows .result) (most (c .before .before .before .before .before .before .before .before .before .before .before .before .before .before .before)) (l .symbols) _ (c .before .before .before .before .before .before .before .before .before .before .before .before .before .before .before .before .before .pre .1 .0 .0) (l .s) (search needs)
     (c .before .before .before .before .before .before .before .before .step .result) (c .before .before .before .before .before .before .before .before .step .ensures) _ (found e) in
     going-turn (r .args .kernel) _ _ _ (r .args .start) (l .s) _ _ _ _ _ (l .inv) (search needs) d (found e) _ (owned (c .before .before .before))
     (c .before .before .before .before .before .before .before .before .step .result) (c .before .before .before .before .before .before .before .before .step .ensures) _ (c .before .with-bit .ensures)
@@ -221,8 +215,8 @@ loop-again c =
 returns : tie.Need-returns Inv-loop μ-loop
 returns c =
     let l = c .before .loop in
-    let r = c .before .before .before .before .before .before in
-    row-of (r .args .kernel) (r .args .t2) _ (c .before .before .cost-rows .ensures .0) (r .args .free) (r .args .given) (r .args .start) (l .symbols) (l .scores) (l .penalties) (l .kept) (l .penalty) (l .s)
+    let r = c .before .before .before .before in
+    row-of (r .args .kernel) (r .args .t4) _ (c .before .before .cost-rows .ensures .0) (r .args .free) (r .args .given) (r .args .start) (l .symbols) (l .scores) (l .penalties) (l .kept) (l .penalty) (l .s)
     (search needs) (l .inv)
 
 pub inner-row-spec : {M : Type 1} → statement M
@@ -231,13 +225,11 @@ inner-row-spec =
     (tie.spec
     Inv-loop
     μ-loop
-    shapes-of-requires
-    tables-of-requires
     slice-aggregate-cost-rows
     cost-rows-requires
     loop-holds
     mul-shape
-    array-copy-out-shape
+    element-copy-out-shape
     mul-step
     index-1-step
     step-requires
