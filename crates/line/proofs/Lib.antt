@@ -1,0 +1,4 @@
+pub mod Stored
+pub mod Text
+pub mod Complement
+pub mod Printed

@@ -1,0 +1,59 @@
+-- What is printed of frame decode's result, and of an input of 290 bytes or another length. Assumes nothing.
+use mathlib.Core.Path.{_≡_, sym, ap, _∙_}
+use mathlib.Core.Bool.{true, false}
+use mathlib.Core.List.{List, map}
+use Prim.Native.Nat.{ℕ, _-_, _≤_}
+use native.Mathlib.Omega.{arith}
+use borrow.Author.Tests.{eq-eqb, ne-eqb}
+use lib.IntN.{ℤ, pos}
+use lib.ListN.{length, getD, take, drop, replicate, length-drop}
+use lib.Seq.{length-take-le, take-all}
+use Rattle.answer.specs.Verdict.{Verdict, isAccepted, numberOf, placeOf}
+use Rattle.mask.specs.Mask.{partLength, payloadPart}
+use Rattle.mask.proofs.Mask.{part-le}
+use Rattle.decode.specs.Jobs.{frameDecode}
+use Rattle.line.specs.Line.{okLines, refusedLine, lineOf, valueOf, maskOf, decodeOf, line}
+
+-- The payload part of 32 bytes is no longer than they are.
+pub part-short : (mask payload : List ℕ) → length payload ≡ 32 → length (payloadPart mask payload) ≤ 32
+unfolding payloadPart
+part-short mask payload n =
+    let l = part-le mask (length payload) in
+    omega (arith, length-take-le (partLength mask (length payload)) payload l)
+
+module _ (mask : List ℕ) (v : Verdict) (scores : List ℤ) (penalties payload : List ℕ) where
+  -- A refusal prints its line,
+  pub line-refused : isAccepted v ≡ false → lineOf mask (v, scores, penalties, payload) ≡ refusedLine (numberOf v) (placeOf v)
+  unfolding lineOf
+  line-refused e =
+      ap (λ c. elim c as (λ _. List ℕ) [ true ↦ okLines (getD penalties 255 0) (payloadPart mask payload) | false ↦ refusedLine (numberOf v) (placeOf v) ]) e
+
+  -- and an acceptance its two.
+  pub line-accepted : isAccepted v ≡ true → lineOf mask (v, scores, penalties, payload) ≡ okLines (getD penalties 255 0) (payloadPart mask payload)
+  unfolding lineOf
+  line-accepted e =
+      ap (λ c. elim c as (λ _. List ℕ) [ true ↦ okLines (getD penalties 255 0) (payloadPart mask payload) | false ↦ refusedLine (numberOf v) (placeOf v) ]) e
+
+-- The part after the mask, as the code cuts it, has all the value bytes.
+pub decode-is : (input : List ℕ) (values : List ℤ) (job : Verdict × List ℤ × List ℕ × List ℕ) → length input ≡ 290
+    → values ≡ map valueOf (take (length input - 34) (drop 34 input))
+    → frameDecode (getD input 0 0) (getD input 1 0) values (maskOf input) (replicate 256 (pos 0)) (replicate 256 0) (replicate 32 0) ≡ job
+    → decodeOf input ≡ job
+unfolding decodeOf
+decode-is input values job n e j =
+    let l : length (drop 34 input) ≤ length input - 34 = omega (arith, length-drop 34 input) in
+    ap (λ (ys : List ℤ). frameDecode (getD input 0 0) (getD input 1 0) ys (maskOf input) (replicate 256 (pos 0)) (replicate 256 0) (replicate 32 0))
+    (sym (e ∙ ap (map valueOf) (take-all (length input - 34) (drop 34 input) l)))
+    ∙ j
+
+-- An input of another length is refused,
+pub line-other : (input : List ℕ) → (length input ≡ 290 → ⊥) → line input ≡ refusedLine 2 0
+unfolding line
+line-other input n =
+    ap (λ c. elim c as (λ _. List ℕ) [ true ↦ lineOf (maskOf input) (decodeOf input) | false ↦ refusedLine 2 0 ]) (ne-eqb (length input) 290 n)
+
+-- and one of 290 bytes decoded.
+pub line-whole : (input : List ℕ) → length input ≡ 290 → line input ≡ lineOf (maskOf input) (decodeOf input)
+unfolding line
+line-whole input n =
+    ap (λ c. elim c as (λ _. List ℕ) [ true ↦ lineOf (maskOf input) (decodeOf input) | false ↦ refusedLine 2 0 ]) (eq-eqb (length input) 290 n)

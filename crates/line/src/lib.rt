@@ -1,0 +1,149 @@
+// What `linkline` prints, from all that it reads: one function from the bytes of the input to a buffer.
+ghost use mathlib.Core.Path.{_≡_};
+ghost use mathlib.Core.List.{_++_, map};
+ghost use Prim.Native.Nat.{_+_, _≤_, _<_};
+ghost use lib.ListN.{length, drop};
+ghost use Rattle.answer.specs.Verdict.{verdict, numberOf, placeOf};
+ghost use Rattle.line.specs.Line.{decimal, hexadecimal, okLines, refusedLine, lineOf, valueOf, maskOf, decodeOf};
+ghost use Rattle.line.specs.Line.{digit as Line·digit, line as Line·line};
+ghost use Rattle.line.specs.Put.{Put};
+use answer::Answer;
+
+// The ASCII code of a digit below 16.
+fn digit(d: u8) -> u8
+    requires { ⌜ d < 16 ⌝ }
+    ensures { λ r. ⌜ r ≡ Line·digit d ⌝ }
+{
+    if d < 10 { 48 + d } else { 87 + d }
+}
+
+// Puts bytes at an index, and answers where they end.
+fn put(bytes: &[u8], at: usize, out: &mut [u8]) -> usize
+    requires { ⌜ at + length (now bytes) ≤ length (now out) ⌝ }
+    ensures { λ r. ⌜ Put (now (bytes .entry)) at r (now (out .entry)) (now (out .exit)) ⌝ }
+{
+    let mut end = at;
+    let mut i: usize = 0;
+    while i < bytes.len() {
+        out[end] = bytes[i];
+        end += 1;
+        i += 1;
+    }
+    end
+}
+
+// Puts a number in decimal.
+fn put_decimal(n: u64, at: usize, out: &mut [u8]) -> usize
+    requires { ⌜ at + length (decimal n) ≤ length (now out) ⌝ }
+    ensures { λ r. ⌜ Put (decimal n) at r (now (out .entry)) (now (out .exit)) ⌝ }
+{
+    if n < 10 {
+        out[at] = digit(n as u8);
+        return at + 1;
+    }
+    let end = put_decimal(n / 10, at, out);
+    out[end] = digit((n % 10) as u8);
+    end + 1
+}
+
+// Puts bytes in small hexadecimal.
+fn put_hexadecimal(bytes: &[u8], at: usize, out: &mut [u8]) -> usize
+    requires { ⌜ at + length (hexadecimal (now bytes)) ≤ length (now out) ⌝ }
+    ensures { λ r. ⌜ Put (hexadecimal (now (bytes .entry))) at r (now (out .entry)) (now (out .exit)) ⌝ }
+{
+    let mut end = at;
+    let mut i: usize = 0;
+    while i < bytes.len() {
+        out[end] = digit(bytes[i] / 16);
+        out[end + 1] = digit(bytes[i] % 16);
+        end += 2;
+        i += 1;
+    }
+    end
+}
+
+// Puts the line of a refusal. Each name is where its part ends.
+fn put_refused(a: Answer, out: &mut [u8]) -> usize
+    requires { ⌜ length (now out) ≡ 74 ⌝ }
+    ensures { λ r. ⌜ Put (refusedLine (numberOf (verdict a)) (placeOf (verdict a))) 0 r (now (out .entry)) (now (out .exit)) ⌝ }
+{
+    let head = put(b"refused ", 0, out);
+    let number = put_decimal(answer::number(a) as u64, head, out);
+    let space = put(b" ", number, out);
+    let place = put_decimal(answer::place(a) as u64, space, out);
+    put(b"\n", place, out)
+}
+
+// Puts the lines of a decoded frame. Each name is where its part ends. The longest lines are of five digits and 32 bytes:
+// 74 bytes.
+fn put_ok(penalty: u16, payload: &[u8], out: &mut [u8]) -> usize
+    requires { ⌜ (length (now payload) ≤ 32) × (length (now out) ≡ 74) ⌝ }
+    ensures { λ r. ⌜ Put (okLines penalty (now (payload .entry))) 0 r (now (out .entry)) (now (out .exit)) ⌝ }
+{
+    let head = put(b"ok ", 0, out);
+    let number = put_decimal(penalty as u64, head, out);
+    let first = put(b"\n", number, out);
+    let bytes = put_hexadecimal(payload, first, out);
+    put(b"\n", bytes, out)
+}
+
+// A value byte in two's complement.
+fn value(b: u8) -> i8
+    ensures { λ r. ⌜ r ≡ valueOf b ⌝ }
+{
+    if b < 128 {
+        b as i8
+    } else {
+        (b as i16 - 256) as i8
+    }
+}
+
+// The values of 256 value bytes.
+fn values(bytes: &[u8]) -> [i8; 256]
+    requires { ⌜ length (now bytes) ≡ 256 ⌝ }
+    ensures { λ r. ⌜ r ≡ map valueOf (now (bytes .entry)) ⌝ }
+{
+    let mut out = [0i8; 256];
+    let mut i: usize = 0;
+    while i < 256 {
+        out[i] = value(bytes[i]);
+        i += 1;
+    }
+    out
+}
+
+// Decodes an input of 290 bytes, and puts its lines.
+fn put_decoded(input: &[u8], out: &mut [u8]) -> usize
+    requires { ⌜ (length (now input) ≡ 290) × (length (now out) ≡ 74) ⌝ }
+    ensures { λ r. ⌜ Put (lineOf (maskOf (now (input .entry))) (decodeOf (now (input .entry)))) 0 r (now (out .entry)) (now (out .exit)) ⌝ }
+{
+    let mask = &input[2..34];
+    let sent = values(&input[34..]);
+    let mut scores = [0i16; 256];
+    let mut penalties = [0u16; 256];
+    let mut payload = [0u8; 32];
+    let a = decode::frame_decode(
+        input[0],
+        input[1],
+        &sent,
+        mask,
+        &mut scores,
+        &mut penalties,
+        &mut payload,
+    );
+    if !answer::accepted(a) {
+        return put_refused(a, out);
+    }
+    put_ok(penalties[255], mask::payload_part(mask, &payload), out)
+}
+
+// Fills the buffer with all that is printed for an input of any length, and answers how many bytes that is. What lies past
+// them stays. The buffer's type gives its length, the longest output's, so there is none that is too short.
+pub fn line(input: &[u8], out: &mut [u8; 74]) -> usize
+    ensures { λ r. ⌜ (r ≡ length (Line·line (now (input .entry)))) × (now (out .exit) ≡ Line·line (now (input .entry)) ++ drop r (now (out .entry))) ⌝ }
+{
+    if input.len() != 290 {
+        return put_refused(Answer::WrongLength, out);
+    }
+    put_decoded(input, out)
+}
