@@ -9,12 +9,31 @@
  *
  * Every job answers with a number. 0 says that it was accepted; 1 to 9 is the
  * first condition that held, in checking order, and the job did nothing else.
+ * The checking order is that of the numbers. With 6, 7 and 9 goes a place,
+ * counted from 0; with every other number the place is 0. Each job's text names
+ * the numbers that it can answer; no other one comes.
  *
- * Buffers are handed over as a pointer and then the count of elements. The
- * pointer is never null, even where the count is 0, and is aligned for its
- * type. Buffers handed to one call must not overlap. A refusal changes no
- * buffer. An output buffer may be longer than needed: what lies past the
- * written part stays as it was.
+ * Buffers are handed over as a pointer and then the count of elements, which
+ * is not always the count of bytes. A buffer that is const is only read. An
+ * accepted job writes the front of its output buffers, as many elements as its
+ * text says; they may be longer, and what lies past the written part stays as
+ * it was. What they held before does not matter. A refusal changes no buffer.
+ *
+ * A job keeps nothing from one call to the next: what it answers and writes
+ * follows from what it is handed. All this is proved of the library. It
+ * allocates nothing, and calls nothing but memcpy and memset.
+ *
+ * What the caller must keep, and nothing proves or looks at:
+ *
+ * - A pointer is not null, even where the count is 0, and is aligned for its
+ *   type.
+ * - A count is true: the buffer has that many elements, those of an input are
+ *   set, and those of an output may be written.
+ * - No buffer of a call overlaps another one of that call.
+ * - Nothing else (a thread, an interrupt, a device) writes to a buffer, or reads
+ *   an output, while a job runs.
+ * - A float is an IEEE 754 binary32, and the floating-point environment is the
+ *   one that a program starts with.
  */
 #ifndef NOSPRIDDA_H
 #define NOSPRIDDA_H
@@ -54,48 +73,99 @@ struct nospridda_word_outcome {
     uint16_t word;
 };
 
-/* Kernel encode: the word of sixteen symbols. Refused by condition 1 only. */
+/* Kernel encode: the word of sixteen symbols.
+ *
+ * Every number is taken as symbols. There is no buffer.
+ *
+ * Answers 0 with the word, or
+ *   1  kernel is not 0, 1 or 2. */
 struct nospridda_word_outcome nospridda_kernel_encode(uint8_t kernel, uint16_t symbols);
 
-/* Kernel undo: the sixteen symbols of a word. Refused by condition 1 only. */
+/* Kernel undo: the sixteen symbols of a word.
+ *
+ * Every number is the word of some symbols. There is no buffer.
+ *
+ * Answers 0 with the symbols (in the field word), or
+ *   1  kernel is not 0, 1 or 2. */
 struct nospridda_word_outcome nospridda_kernel_undo(uint8_t kernel, uint16_t word);
 
-/* Kernel follow: sixteen channel values, each from -2047 to 2047 and positive
- * for bit 0, and sixteen symbols give sixteen scores. The score of a phase is
- * the best score of the words that begin with the symbols before it and have 0
- * next, less that of the words with 1 next. Refused by condition 1, 2 (not 16
- * values), 5 (fewer than 16 scores) or 6. */
+/* Kernel follow: the scores of sixteen symbols over sixteen channel values.
+ *
+ * values     16 values, each from -2047 to 2047 and positive for bit 0.
+ * scores     16 of them are written, each from -32752 to 32752.
+ *
+ * The score of a phase is the best score of the words that begin with the
+ * symbols before it and have 0 next, less that of the words with 1 next. A word
+ * pays the size of each value that speaks for the other bit; its score is minus
+ * what it pays in all.
+ *
+ * Answers 0, or, with all scores left as they were,
+ *   1  kernel is not 0, 1 or 2;
+ *   2  values_length is not 16;
+ *   5  scores_length is below 16;
+ *   6  a value is out of range; place: the index of the lowest, 0 to 15. */
 struct nospridda_outcome nospridda_kernel_follow(
     uint8_t kernel,
     const int16_t *values, size_t values_length,
     uint16_t symbols,
     int16_t *scores, size_t scores_length);
 
-/* Frame encode: the word (32 bytes) of a payload of k/8 bytes. Refused by
- * condition 1, 2 (a mask that is not 32 bytes), 3, 4 or 5 (fewer than 32 bytes
- * for the word). */
+/* Frame encode: the word of a payload.
+ *
+ * mask       32 bytes.
+ * payload    k/8 bytes, k being the count of phases that the mask marks. Its
+ *            bits are the symbols at the marked phases, in rising order; all
+ *            other symbols are 0.
+ * word       32 bytes are written.
+ *
+ * Answers 0, or, with word left as it was,
+ *   1  inner or outer is not 0, 1 or 2;
+ *   2  mask_length is not 32;
+ *   3  the mask marks no phase, or a count that is not a multiple of 8;
+ *   4  payload_length is not k/8;
+ *   5  word_length is below 32. */
 struct nospridda_outcome nospridda_frame_encode(
     uint8_t inner, uint8_t outer,
     const uint8_t *mask, size_t mask_length,
     const uint8_t *payload, size_t payload_length,
     uint8_t *word, size_t word_length);
 
-/* Frame undo: the payload (k/8 bytes) of a word. Refused by condition 1, 2 (a
- * mask or a word that is not 32 bytes), 3, 5 (fewer than k/8 bytes for the
- * payload) or 9. */
+/* Frame undo: the payload of a word, for the same kernels and mask.
+ *
+ * mask       32 bytes.
+ * word       32 bytes.
+ * payload    k/8 bytes are written.
+ *
+ * Answers 0, or, with payload left as it was,
+ *   1  inner or outer is not 0, 1 or 2;
+ *   2  mask_length or word_length is not 32;
+ *   3  the mask marks no phase, or a count that is not a multiple of 8;
+ *   5  payload_length is below k/8;
+ *   9  no payload has this word: it has symbol 1 at an unmarked phase; place:
+ *      the lowest such phase, 0 to 255. */
 struct nospridda_outcome nospridda_frame_undo(
     uint8_t inner, uint8_t outer,
     const uint8_t *mask, size_t mask_length,
     const uint8_t *word, size_t word_length,
     uint8_t *payload, size_t payload_length);
 
-/* Frame follow: 256 channel values, each from -127 to 127 and positive for bit
- * 0, and 256 symbols (32 bytes) give 256 scores and 256 penalties. The score of
- * a phase is the best score of the words that begin with the symbols before it
- * and have 0 next, less that of the words with 1 next; its penalty is what the
- * best word that begins with the symbols up to and with it pays. Refused by
- * condition 1, 2 (not 256 values, or symbols that are not 32 bytes), 5 (fewer
- * than 256 scores or penalties) or 6. */
+/* Frame follow: the scores and penalties of 256 symbols over 256 channel
+ * values.
+ *
+ * values     256 values, each from -127 to 127 and positive for bit 0.
+ * symbols    32 bytes.
+ * scores     256 of them are written, each from -32512 to 32512.
+ * penalties  256 of them are written, each at most 32512.
+ *
+ * The score of a phase is as with kernel follow, over the words of the frame.
+ * Its penalty is what the best word that begins with the symbols up to and with
+ * it pays; that of phase 255 is what the word of all symbols pays.
+ *
+ * Answers 0, or, with both outputs left as they were,
+ *   1  inner or outer is not 0, 1 or 2;
+ *   2  values_length is not 256, or symbols_length is not 32;
+ *   5  scores_length or penalties_length is below 256;
+ *   6  a value is -128; place: the index of the lowest, 0 to 255. */
 struct nospridda_outcome nospridda_frame_follow(
     uint8_t inner, uint8_t outer,
     const int8_t *values, size_t values_length,
@@ -103,11 +173,26 @@ struct nospridda_outcome nospridda_frame_follow(
     int16_t *scores, size_t scores_length,
     uint16_t *penalties, size_t penalties_length);
 
-/* Frame decode: the same for the decoder's own symbols, and their payload (k/8
- * bytes). A symbol is 1 at a marked phase whose score is below 0, else 0.
- * Refused by condition 1, 2 (not 256 values, or a mask that is not 32 bytes),
- * 3, 5 (fewer than 256 scores or penalties, or fewer than k/8 bytes for the
- * payload) or 6. */
+/* Frame decode: the same for the decoder's own symbols, and their payload.
+ *
+ * values     256 values, each from -127 to 127 and positive for bit 0.
+ * mask       32 bytes.
+ * scores     256 of them are written, each from -32512 to 32512.
+ * penalties  256 of them are written, each at most 32512.
+ * payload    k/8 bytes are written.
+ *
+ * A symbol is 1 at a marked phase whose score is below 0, else 0. Scores and
+ * penalties are those of frame follow for these symbols; the payload is the
+ * symbols at the marked phases, in rising order. Every frame that is not refused
+ * gives some payload: whether it is the one sent, no job can tell.
+ *
+ * Answers 0, or, with all three outputs left as they were,
+ *   1  inner or outer is not 0, 1 or 2;
+ *   2  values_length is not 256, or mask_length is not 32;
+ *   3  the mask marks no phase, or a count that is not a multiple of 8;
+ *   5  scores_length or penalties_length is below 256, or payload_length is
+ *      below k/8;
+ *   6  a value is -128; place: the index of the lowest, 0 to 255. */
 struct nospridda_outcome nospridda_frame_decode(
     uint8_t inner, uint8_t outer,
     const int8_t *values, size_t values_length,
@@ -116,28 +201,46 @@ struct nospridda_outcome nospridda_frame_decode(
     uint16_t *penalties, size_t penalties_length,
     uint8_t *payload, size_t payload_length);
 
-/* Payload part: how many of a buffer's first bytes hold the payload, k/8 of
- * exactly 32; 0 for a buffer of another length, a mask that is not 32 bytes,
- * or one that is refused by condition 3. */
+/* Payload part: how many of the first bytes of a buffer hold the payload.
+ *
+ * mask       any length; only one of 32 bytes has a payload.
+ * length     the bytes of the buffer, which itself is not handed over.
+ *
+ * Answers k/8 for a length of exactly 32. Answers 0 for another length, a mask
+ * that is not 32 bytes, or one that marks no phase or a count that is not a
+ * multiple of 8. This job has no numbers and refuses nothing. */
 size_t nospridda_part_length(
     const uint8_t *mask, size_t mask_length,
     size_t length);
 
-/* Information mask: the mask (32 bytes) for a payload of p bytes, 1 to 32, with
- * kernel 2 as inner and outer kernel. Refused by condition 5 (fewer than 32
- * bytes for the mask) or 8. */
+/* Information mask: the mask for a payload of p bytes, with kernel 2 as inner
+ * and outer kernel.
+ *
+ * mask       32 bytes are written; they mark 8p phases.
+ *
+ * Answers 0, or, with mask left as it was,
+ *   5  mask_length is below 32;
+ *   8  p is not from 1 to 32. */
 struct nospridda_outcome nospridda_information_mask(
     size_t p,
     uint8_t *mask, size_t mask_length);
 
-/* Values from marks: 256 amplitudes (a float is IEEE 754 binary32; 2n and 2n+1
- * are I and Q of mark n) and a blanking mask (16 bytes, one bit for each of 128
- * marks, 1 for a blanked one) give 256 channel values. A blanked mark gives 0
- * and 0; its amplitudes are not looked at and may be anything. A heard
- * amplitude times 32 goes to the nearest whole number, a half to the even
- * neighbour, then to the range -127 to 127; minus zero gives 0. Refused by
- * condition 2 (not 256 amplitudes, or a blanking mask that is not 16 bytes), 5
- * (fewer than 256 values) or 7 (place: 0 to 255). */
+/* Values from marks: the channel values of 128 received marks.
+ *
+ * amplitudes 256 floats; 2n and 2n+1 are I and Q of mark n.
+ * blanked    16 bytes, one bit for each mark, 1 for a blanked one.
+ * values     256 of them are written, each from -127 to 127.
+ *
+ * A blanked mark gives 0 and 0; its amplitudes are not looked at and may be
+ * anything, NaN too. A heard amplitude times 32 goes to the nearest whole
+ * number, a half to the even neighbour, then to the range -127 to 127; minus
+ * zero gives 0.
+ *
+ * Answers 0, or, with values left as they were,
+ *   2  amplitudes_length is not 256, or blanked_length is not 16;
+ *   5  values_length is below 256;
+ *   7  an amplitude of a heard mark is NaN or infinite; place: the index of the
+ *      lowest such amplitude, 0 to 255. */
 struct nospridda_outcome nospridda_values_from_marks(
     const float *amplitudes, size_t amplitudes_length,
     const uint8_t *blanked, size_t blanked_length,

@@ -1,0 +1,166 @@
+/*
+ * One frame over a noisy link: a payload of eight bytes is encoded, sent as
+ * amplitudes, received with noise and two lost marks, and decoded.
+ *
+ * Every number that a job answers is looked at. The exit status is 1 where
+ * something is not as expected. The noise comes from a fixed seed, and all that
+ * is printed is whole numbers, so the output is the same everywhere.
+ */
+#include <math.h>
+#include <stdint.h>
+#include <stdio.h>
+#include <stdlib.h>
+#include <string.h>
+
+#include "nospridda.h"
+
+enum {
+    KERNEL = 2,        /* inner and outer kernel: the pair (2, 2) */
+    SYMBOLS = 256,     /* coded bits of a frame */
+    WORD_BYTES = 32,   /* the same, packed */
+    MARK_BYTES = 16,   /* one bit for each of 128 marks, which carry I and Q */
+    PAYLOAD_BYTES = 8,
+    LOST = 40,         /* a mark that the radio lost */
+    FADED = 99         /* and another one */
+};
+
+/* Ends the program unless something holds. */
+static void expect(int holds, const char *what)
+{
+    if (!holds) {
+        printf("not as expected: %s\n", what);
+        exit(EXIT_FAILURE);
+    }
+}
+
+/* Ends the program unless a job was accepted. */
+static void accepted(struct nospridda_outcome outcome, const char *job)
+{
+    if (outcome.number != NOSPRIDDA_ACCEPTED) {
+        printf("%s: refused, number %u, place %zu\n", job, (unsigned)outcome.number, outcome.place);
+        exit(EXIT_FAILURE);
+    }
+}
+
+/* Prints a refusal, and ends the program unless it has this number. */
+static void refused(struct nospridda_outcome outcome, const char *job, uint32_t number)
+{
+    printf("%s: refused, number %u, place %zu\n", job, (unsigned)outcome.number, outcome.place);
+    expect(outcome.number == number, "the number of this refusal");
+}
+
+static void print_bytes(const char *label, const uint8_t *bytes, size_t length)
+{
+    size_t i;
+    printf("%s", label);
+    for (i = 0; i < length; i++) {
+        printf("%02x", (unsigned)bytes[i]);
+    }
+    printf("\n");
+}
+
+/* Bit i of packed bytes: index 0 is the most significant bit of the first. */
+static int bit(const uint8_t *bytes, size_t i)
+{
+    return (bytes[i / 8] >> (7 - i % 8)) & 1;
+}
+
+static void set_bit(uint8_t *bytes, size_t i)
+{
+    bytes[i / 8] |= (uint8_t)(0x80 >> (i % 8));
+}
+
+/* Noise: the sum of four numbers from -48 to 48, by xorshift. */
+static int noise(uint32_t *state)
+{
+    int sum = 0;
+    int i;
+    for (i = 0; i < 4; i++) {
+        *state ^= *state << 13;
+        *state ^= *state >> 17;
+        *state ^= *state << 5;
+        sum += (int)(*state % 97) - 48;
+    }
+    return sum;
+}
+
+int main(void)
+{
+    static const uint8_t sent[PAYLOAD_BYTES] = {0x4a, 0x6f, 0x79, 0x73, 0x74, 0x69, 0x63, 0x6b};
+    uint8_t mask[WORD_BYTES];
+    uint8_t word[WORD_BYTES];
+    float amplitudes[SYMBOLS];
+    uint8_t blanked[MARK_BYTES] = {0};
+    int8_t values[SYMBOLS] = {0};
+    uint8_t signs[WORD_BYTES] = {0};
+    int16_t scores[SYMBOLS];
+    uint16_t penalties[SYMBOLS];
+    uint8_t decoded[PAYLOAD_BYTES] = {0};
+    struct nospridda_outcome outcome;
+    uint32_t state = 2463534242u;
+    unsigned wrong = 0;
+    unsigned paid = 0;
+    size_t i;
+
+    /* Which of the 256 phases carry the payload. */
+    accepted(nospridda_information_mask(PAYLOAD_BYTES, mask, sizeof mask), "information mask");
+    expect(nospridda_part_length(mask, sizeof mask, WORD_BYTES) == PAYLOAD_BYTES, "the mask takes this payload");
+
+    /* The sender. */
+    accepted(nospridda_frame_encode(KERNEL, KERNEL, mask, sizeof mask, sent, sizeof sent, word, sizeof word),
+             "frame encode");
+    print_bytes("payload sent:    ", sent, sizeof sent);
+    print_bytes("word sent:       ", word, sizeof word);
+
+    /* The channel: 1 for bit 0, -1 for bit 1, and noise in 64ths. */
+    for (i = 0; i < SYMBOLS; i++) {
+        int level = bit(word, i) ? -64 : 64;
+        amplitudes[i] = (float)(level + noise(&state)) / 64.0f;
+    }
+    amplitudes[2 * LOST] = INFINITY;
+    amplitudes[2 * FADED] = 0.0f;
+    amplitudes[2 * FADED + 1] = 0.0f;
+
+    /* The receiver. An amplitude that is not finite is refused, and no value is written. */
+    outcome = nospridda_values_from_marks(amplitudes, SYMBOLS, blanked, sizeof blanked, values, SYMBOLS);
+    refused(outcome, "values from marks, all heard", NOSPRIDDA_NOT_FINITE);
+    expect(outcome.place == 2 * LOST, "the place is that of the amplitude");
+    for (i = 0; i < SYMBOLS; i++) {
+        expect(values[i] == 0, "a refusal changes no buffer");
+    }
+
+    /* Blanked, both marks give 0, which speaks for neither bit. */
+    set_bit(blanked, LOST);
+    set_bit(blanked, FADED);
+    accepted(nospridda_values_from_marks(amplitudes, SYMBOLS, blanked, sizeof blanked, values, SYMBOLS),
+             "values from marks");
+
+    /* What the noise did: values that speak for the other bit, and their weight. */
+    for (i = 0; i < SYMBOLS; i++) {
+        if (values[i] < 0) {
+            set_bit(signs, i);
+        }
+        if (bit(word, i) ? values[i] > 0 : values[i] < 0) {
+            wrong++;
+            paid += (unsigned)abs(values[i]);
+        }
+    }
+    printf("wrong signs:     %u of %d values, weight %u\n", wrong, SYMBOLS, paid);
+
+    /* The signs alone are no word of this mask, so undoing them is refused. */
+    outcome = nospridda_frame_undo(KERNEL, KERNEL, mask, sizeof mask, signs, sizeof signs, decoded, sizeof decoded);
+    refused(outcome, "frame undo of the signs", NOSPRIDDA_FROZEN_ONE);
+
+    /* The decoder looks at the sizes too. */
+    accepted(nospridda_frame_decode(KERNEL, KERNEL, values, SYMBOLS, mask, sizeof mask,
+                                    scores, SYMBOLS, penalties, SYMBOLS, decoded, sizeof decoded),
+             "frame decode");
+    printf("final penalty:   %u\n", (unsigned)penalties[SYMBOLS - 1]);
+    print_bytes("payload decoded: ", decoded, sizeof decoded);
+
+    /* The final penalty is what the decoded word pays: here the weight of the wrong signs. */
+    expect(memcmp(sent, decoded, sizeof sent) == 0, "the payload decoded is the one sent");
+    expect(penalties[SYMBOLS - 1] == paid, "the final penalty is the weight of the wrong signs");
+    printf("the payloads agree\n");
+    return EXIT_SUCCESS;
+}
