@@ -1,7 +1,8 @@
 //! Kernel follow: every phase of every case against the best over all words.
-use crate::library::{kernel_follow, Outcome};
+use crate::library::Outcome;
 use crate::paper::{bit, Kernel};
 use crate::random::Random;
+use crate::recorded::kernel_follow;
 use crate::scores::{best_symbols, pay, scores, totals, Values};
 use crate::tally::Tally;
 use crate::traps::{self, Traps};
@@ -11,6 +12,9 @@ const CASES: u64 = 300;
 
 /// What an output buffer holds before a call: no score is as low.
 const UNTOUCHED: i16 = i16::MIN;
+
+/// How much longer than needed it is.
+const SPARE: usize = 4;
 
 const ACCEPTED: Outcome = Outcome {
     number: 0,
@@ -85,9 +89,9 @@ fn full_range(random: &mut Random) -> Values {
     each(|| random.between(-2047, 2047))
 }
 
-/// One accepted case: the outcome and all sixteen scores.
+/// One accepted case: the outcome, all sixteen scores, and that what lies past them stays.
 fn compare(tally: &mut Tally, kernel: u8, values: &Values, symbols: u16, want: &[i32; 16]) {
-    let mut got = [UNTOUCHED; 16];
+    let mut got = [UNTOUCHED; 16 + SPARE];
     let outcome = kernel_follow(kernel, values, symbols, &mut got);
     if outcome != ACCEPTED {
         tally.wrong(format_args!(
@@ -97,6 +101,10 @@ fn compare(tally: &mut Tally, kernel: u8, values: &Values, symbols: u16, want: &
         let (want, got) = (want[phase], got[phase]);
         tally.wrong(format_args!(
             "kernel {kernel}, values {values:?}, symbols {symbols:016b}, phase {phase}: wanted {want}, got {got}"
+        ));
+    } else if got[16..] != [UNTOUCHED; SPARE] {
+        tally.wrong(format_args!(
+            "kernel {kernel}, values {values:?}, symbols {symbols:016b}: written past the scores, {got:?}"
         ));
     }
 }

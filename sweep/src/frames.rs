@@ -2,9 +2,10 @@
 use std::fs;
 
 use crate::frame::{order, packed, placed, symbols, taken, unpacked, word, Bits};
-use crate::library::{frame_encode, frame_undo, information_mask, part_length, Outcome};
+use crate::library::Outcome;
 use crate::paper::Kernel;
 use crate::random::Random;
+use crate::recorded::{frame_encode, frame_undo, information_mask, part_length};
 use crate::tally::Tally;
 
 /// What an output buffer holds before a call.
@@ -20,6 +21,9 @@ pub fn sweep(tally: &mut Tally, kernels: &[Kernel]) {
     let mut random = Random::new(3);
     round_trips(tally, kernels, &mut random);
     damage(tally, kernels, &mut random);
+    frozen_ones(tally, kernels);
+    no_kernel(tally, kernels, &mut random);
+    lengths(tally, kernels, &mut random);
     requests(tally, kernels, &mut random);
     parts(tally, &mut random);
     masks(tally, kernels);
@@ -237,6 +241,84 @@ fn damage(tally: &mut Tally, kernels: &[Kernel], random: &mut Random) {
     );
 }
 
+/// The only symbol 1 at each phase, unmarked with seven others; then with the highest of these at 1 as well.
+fn frozen_ones(tally: &mut Tally, kernels: &[Kernel]) {
+    let mut cases = 0;
+    for phase in 0..256 {
+        let (inner, outer) = (phase % 3, phase / 3 % 3);
+        let unmarked: Vec<usize> = (0..8).map(|i| (phase + 31 * i) % 256).collect();
+        let highest = *unmarked.iter().max().unwrap();
+        for other in [phase, highest] {
+            let symbols: Bits = std::array::from_fn(|i| i == phase || i == other);
+            let marks: Bits = std::array::from_fn(|i| !unmarked.contains(&i));
+            let here = Request {
+                inner: inner as u8,
+                outer: outer as u8,
+                mask: packed(&marks),
+                input: packed(&word(&kernels[inner], &kernels[outer], &symbols)),
+                room: 31 + SPARE,
+            };
+            let want = refused(9, phase, here.room);
+            here.compare(tally, "undo of a frozen one", &want, &here.undo());
+            cases += 1;
+        }
+    }
+    tally.group("an unmarked symbol 1 at every phase", cases);
+}
+
+/// Numbers that no kernel has, as inner and as outer kernel, alone and with every other fault.
+fn no_kernel(tally: &mut Tally, kernels: &[Kernel], random: &mut Random) {
+    let mut cases = 0;
+    for kernel in 3..=u8::MAX {
+        for (inner, outer) in [(kernel, 0), (1, kernel), (kernel, kernel)] {
+            let mut there = request(random, 0);
+            (there.inner, there.outer) = (inner, outer);
+            let mut here = back(&there, &[0; 32]);
+            for _ in 0..2 {
+                let want = there.encoded(kernels);
+                there.compare(tally, "encode", &want, &there.encode());
+                let want = here.undone(kernels);
+                here.compare(tally, "undo", &want, &here.undo());
+                cases += 2;
+                for request in [&mut there, &mut here] {
+                    request.mask = vec![0; 31];
+                    request.input.push(0);
+                    request.room = 0;
+                }
+            }
+        }
+    }
+    tally.group("encode and undo, kernels 3 to 255 refused", cases);
+}
+
+/// Every combination of lengths, right and wrong, with a mask that is taken, one of 255 phases and one of none.
+fn lengths(tally: &mut Tally, kernels: &[Kernel], random: &mut Random) {
+    let mut cases = 0;
+    for length in [0, 1, 31, 32, 33, 64] {
+        for (fill, first) in [(0xff, 0xff), (0xff, 0xfe), (0, 0)] {
+            for count in [0, 1, 31, 32, 33, 64] {
+                for room in [0, 1, 31, 32, 33] {
+                    let mut mask = vec![fill; length];
+                    mask.iter_mut().take(1).for_each(|byte| *byte = first);
+                    let request = Request {
+                        inner: random.between(0, 2) as u8,
+                        outer: random.between(0, 2) as u8,
+                        mask,
+                        input: bytes(random, count),
+                        room,
+                    };
+                    let want = request.encoded(kernels);
+                    request.compare(tally, "encode", &want, &request.encode());
+                    let want = request.undone(kernels);
+                    request.compare(tally, "undo", &want, &request.undo());
+                    cases += 2;
+                }
+            }
+        }
+    }
+    tally.group("encode and undo, lengths of all buffers", cases);
+}
+
 /// Requests with some of their parts spoiled, so that several conditions can hold at once.
 fn requests(tally: &mut Tally, kernels: &[Kernel], random: &mut Random) {
     let mut met = [[0u64; 10]; 2];
@@ -311,8 +393,14 @@ fn parts(tally: &mut Tally, random: &mut Random) {
         let mut mask = mask(random);
         let mut length = 32;
         match turn % 5 {
-            0 => mask.resize(random.between(30, 34) as usize, 0xff),
-            1 => length = random.between(30, 34) as usize,
+            0 => {
+                let lengths = [0, 1, 30, 31, 33, 34, 64];
+                mask.resize(lengths[random.between(0, 6) as usize], 0xff);
+            }
+            1 => {
+                let lengths = [0, 1, 31, 33, 64, 32 + (1 << 32), usize::MAX];
+                length = lengths[random.between(0, 6) as usize];
+            }
             2 => mask[random.between(0, 31) as usize] ^= random.word() as u8,
             3 => mask.fill([0, 0xff][turn / 5 % 2]),
             _ => {}

@@ -1,8 +1,9 @@
 //! Kernel encode and kernel undo: all 65,536 words of each kernel.
 use std::fs;
 
-use crate::library::{kernel_encode, kernel_undo, WordOutcome};
+use crate::library::WordOutcome;
 use crate::paper::{bit, Kernel};
+use crate::recorded::{kernel_encode, kernel_undo};
 use crate::tally::Tally;
 
 /// Condition 1: no such kernel.

@@ -14,6 +14,7 @@ mod library;
 mod marks;
 mod paper;
 mod random;
+mod recorded;
 mod scores;
 mod tally;
 mod traps;
@@ -46,6 +47,7 @@ fn sweep() -> ExitCode {
     frames::sweep(&mut tally, &all);
     decoding::sweep(&mut tally, &all);
     marks::sweep(&mut tally);
+    recorded::report(&mut tally);
     if tally.end() {
         ExitCode::SUCCESS
     } else {

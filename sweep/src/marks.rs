@@ -3,8 +3,9 @@ use std::cmp::Ordering;
 use std::fs;
 
 use crate::frame::{bit_of, packed};
-use crate::library::{values_from_marks, Outcome};
+use crate::library::Outcome;
 use crate::random::Random;
+use crate::recorded::values_from_marks;
 use crate::tally::Tally;
 use crate::traps::Told;
 

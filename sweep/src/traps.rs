@@ -1,6 +1,6 @@
 //! Mistaken ways to score. Each is told from the true one by a named case, and by cases among the random ones.
-use crate::library::kernel_follow;
 use crate::paper::{bit, Kernel, RELATIONS};
+use crate::recorded::kernel_follow;
 use crate::scores::{pay, score, scores, totals, Values};
 use crate::tally::Tally;
 
@@ -89,13 +89,16 @@ pub fn named(tally: &mut Tally, kernels: &[Kernel]) {
             Mistake::ZeroPays => score(&mistaken_paid, symbols, phase),
         };
         let mut got = [i16::MIN; 16];
-        kernel_follow(kernel, &values, symbols, &mut got);
+        let outcome = kernel_follow(kernel, &values, symbols, &mut got);
         let got = i32::from(got[phase]);
         tally.expect(
-            got == case.truth && truth == case.truth && mistaken == case.mistaken,
+            outcome.number == 0
+                && got == case.truth
+                && truth == case.truth
+                && mistaken == case.mistaken,
             format_args!(
-                "kernel {kernel}, values {values:?}, symbols {symbols:016b}, phase {phase}: wanted {}, got {got}; \
-                 the sweep has {truth}, and {mistaken} by the mistake",
+                "kernel {kernel}, values {values:?}, symbols {symbols:016b}, phase {phase}: wanted {}, got {got}, \
+                 {outcome:?}; the sweep has {truth}, and {mistaken} by the mistake",
                 case.truth
             ),
         );
