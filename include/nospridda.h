@@ -7,11 +7,11 @@
  * bytes, eight bits each, index 0 in the most significant bit of the first. A
  * mask marks the information phases: k of them take a payload of k/8 bytes.
  *
- * Every job answers with a number. 0 says that it was accepted; 1 to 9 is the
- * first condition that held, in checking order, and the job did nothing else.
- * The checking order is that of the numbers. With 6, 7 and 9 goes a place,
- * counted from 0; with every other number the place is 0. Each job's text names
- * the numbers that it can answer; no other one comes.
+ * Every job but the payload part answers with a number. 0 says that it was
+ * accepted; 1 to 9 is the first condition that held, in checking order, and the
+ * job did nothing else. The checking order is that of the numbers. With 6, 7
+ * and 9 goes a place, counted from 0; with every other number the place is 0.
+ * Each job's text names the numbers that it can answer; no other one comes.
  *
  * Buffers are handed over as a pointer and then the count of elements, which
  * is not always the count of bytes. A buffer that is const is only read. An
