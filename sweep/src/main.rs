@@ -1,8 +1,8 @@
 //! The sweep: the library against code written from the paper. It ends with one line, `sweep: N cases, M wrong`, and
 //! with status 1 where a case is wrong.
 //!
-//! `sweep bench` prints times; `sweep calls JOB KERNEL COUNT` only makes calls, for a count of instructions. KERNEL is `-`
-//! for a job that takes none.
+//! `sweep bench` prints times; `sweep calls JOB KERNEL COUNT` only makes calls, for a count of instructions. KERNEL is a
+//! pair such as `2,2` for a job of frames, and `-` for a job that takes none.
 mod bench;
 mod decoding;
 mod follow;
@@ -13,6 +13,7 @@ mod layered;
 mod library;
 mod marks;
 mod paper;
+mod plain;
 mod random;
 mod recorded;
 mod scores;
@@ -46,6 +47,7 @@ fn sweep() -> ExitCode {
     follow::sweep(&mut tally, &all);
     frames::sweep(&mut tally, &all);
     decoding::sweep(&mut tally, &all);
+    plain::sweep(&mut tally, &all);
     marks::sweep(&mut tally);
     recorded::report(&mut tally);
     if tally.end() {
