@@ -1,18 +1,21 @@
 //! Times of the jobs, and plain calls for tools that count.
 use std::hint::black_box;
 use std::process::ExitCode;
+use std::sync::OnceLock;
 use std::thread;
 use std::time::Instant;
 
+use plain_decoder::Decoder;
+
 use crate::frame::bit_of;
 use crate::library::{
-    frame_decode, frame_encode, frame_undo, information_mask, kernel_encode, kernel_follow,
-    kernel_undo, values_from_marks,
+    frame_decode, frame_encode, frame_follow, frame_undo, information_mask, kernel_encode,
+    kernel_follow, kernel_undo, part_length, values_from_marks,
 };
 use crate::marks::value;
 use crate::paper::Kernel;
 use crate::random::Random;
-use crate::scores::{pay, scores, totals, Values};
+use crate::scores::{pay, scores as kernel_scores, totals, Values};
 
 /// How many different inputs a job is timed on, one after another.
 const INPUTS: usize = 256;
@@ -20,124 +23,195 @@ const INPUTS: usize = 256;
 /// The bytes of a frame's payload: k = 128.
 const PAYLOAD: usize = 16;
 
-/// The inputs of all jobs. A frame job is timed on the pair of one kernel twice.
+/// The library's jobs, what each is called with, and what is timed beside it.
+const JOBS: [(&str, &[&str], &str); 10] = [
+    ("kernel-encode", KERNELS, "-"),
+    ("kernel-undo", KERNELS, "-"),
+    ("kernel-follow", KERNELS, "sweep-follow"),
+    ("frame-encode", PAIRS, "-"),
+    ("frame-undo", PAIRS, "-"),
+    ("frame-follow", PAIRS, "-"),
+    ("frame-decode", PAIRS, "plain-decode"),
+    ("part-length", NO_KERNEL, "-"),
+    ("information-mask", NO_KERNEL, "-"),
+    ("values-from-marks", NO_KERNEL, "sweep-values"),
+];
+const KERNELS: &[&str] = &["0", "1", "2"];
+const PAIRS: &[&str] = &["0,0", "1,1", "2,2"];
+const NO_KERNEL: &[&str] = &["-"];
+
+/// The kernel or the pair of a name; kernel 0 for none.
+fn pair(name: &str) -> Option<(u8, u8)> {
+    match name.split_once(',') {
+        Some((inner, outer)) => Some((inner.parse().ok()?, outer.parse().ok()?)),
+        None if name == "-" => Some((0, 0)),
+        None => name.parse().ok().map(|kernel| (kernel, kernel)),
+    }
+}
+
+/// The inputs of all jobs. The job of a kernel takes the inner one.
 struct Inputs {
+    inner: u8,
+    outer: u8,
+    /// Sixteen symbols, or sixteen bits of a word.
     words: Vec<u16>,
     values: Vec<Values>,
     mask: [u8; 32],
     payloads: Vec<[u8; PAYLOAD]>,
+    /// The words of the payloads.
+    frames: Vec<[u8; 32]>,
+    /// These with some noise.
+    received: Vec<[i8; 256]>,
+    /// A frame's symbols, to be followed.
+    symbols: Vec<[u8; 32]>,
     amplitudes: Vec<[f32; 256]>,
+    decoder: Decoder,
+    /// The sweep's tables of the inner kernel, made where they are asked for.
+    kernel: OnceLock<Kernel>,
 }
 
 impl Inputs {
-    fn new() -> Inputs {
+    fn new((inner, outer): (u8, u8)) -> Inputs {
         let mut random = Random::new(2);
         let mut mask = [0; 32];
         information_mask(PAYLOAD, &mut mask);
-        Inputs {
-            words: (0..INPUTS).map(|i| (i * 40503 % 65536) as u16).collect(),
-            values: (0..INPUTS)
-                .map(|_| std::array::from_fn(|_| random.between(-2047, 2047)))
-                .collect(),
-            mask,
-            payloads: (0..INPUTS)
-                .map(|_| std::array::from_fn(|_| random.word() as u8))
-                .collect(),
-            amplitudes: (0..INPUTS)
-                .map(|_| std::array::from_fn(|_| f32::from(random.between(-4096, 4096)) / 1024.0))
-                .collect(),
-        }
-    }
-
-    /// The words of all payloads.
-    fn frames(&self, kernel: u8) -> Vec<[u8; 32]> {
-        self.payloads
+        let values = inputs(|| std::array::from_fn(|_| random.between(-2047, 2047)));
+        let payloads = inputs(|| std::array::from_fn(|_| random.word() as u8));
+        let amplitudes =
+            inputs(|| std::array::from_fn(|_| f32::from(random.between(-4096, 4096)) / 1024.0));
+        let symbols = inputs(|| std::array::from_fn(|_| random.word() as u8));
+        let frames: Vec<[u8; 32]> = payloads
             .iter()
             .map(|payload| {
                 let mut word = [0; 32];
-                frame_encode(kernel, kernel, &self.mask, payload, &mut word);
+                frame_encode(inner, outer, &mask, payload, &mut word);
                 word
             })
-            .collect()
+            .collect();
+        Inputs {
+            inner,
+            outer,
+            words: (0..INPUTS).map(|i| (i * 40503 % 65536) as u16).collect(),
+            values,
+            mask,
+            payloads,
+            received: frames.iter().map(received).collect(),
+            frames,
+            symbols,
+            amplitudes,
+            decoder: Decoder::new(),
+            kernel: OnceLock::new(),
+        }
     }
 
-    /// Calls a job `count` times.
-    fn run(&self, job: &str, kernel: u8, count: u64) -> bool {
+    /// Calls a job, or what is timed beside it, `count` times. What it writes to is not on the stack.
+    fn run(&self, job: &str, count: u64) -> bool {
+        let &Inputs {
+            inner,
+            outer,
+            ref mask,
+            ..
+        } = self;
+        let mut scores = Box::new([0; 256]);
+        let mut penalties = Box::new([0; 256]);
+        let mut values = Box::new([0; 256]);
+        let mut bytes = vec![0; 32];
         match job {
-            "encode" => {
-                self.each(count, |i| {
-                    black_box(kernel_encode(kernel, self.words[i]));
+            "kernel-encode" => each(count, |i| {
+                black_box(kernel_encode(inner, self.words[i]));
+            }),
+            "kernel-undo" => each(count, |i| {
+                black_box(kernel_undo(inner, self.words[i]));
+            }),
+            "kernel-follow" => each(count, |i| {
+                let (y, symbols) = (&self.values[i], self.words[i]);
+                black_box(kernel_follow(inner, y, symbols, &mut scores[..]));
+                black_box(&mut scores);
+            }),
+            "frame-encode" => each(count, |i| {
+                let payload = &self.payloads[i];
+                black_box(frame_encode(inner, outer, mask, payload, &mut bytes));
+                black_box(&mut bytes);
+            }),
+            "frame-undo" => each(count, |i| {
+                let word = &self.frames[i];
+                black_box(frame_undo(inner, outer, mask, word, &mut bytes));
+                black_box(&mut bytes);
+            }),
+            "frame-follow" => each(count, |i| {
+                black_box(frame_follow(
+                    inner,
+                    outer,
+                    &self.received[i],
+                    &self.symbols[i],
+                    &mut scores[..],
+                    &mut penalties[..],
+                ));
+                black_box((&mut scores, &mut penalties));
+            }),
+            "frame-decode" => each(count, |i| {
+                black_box(frame_decode(
+                    inner,
+                    outer,
+                    &self.received[i],
+                    mask,
+                    &mut scores[..],
+                    &mut penalties[..],
+                    &mut bytes,
+                ));
+                black_box((&mut scores, &mut penalties, &mut bytes));
+            }),
+            "plain-decode" => each(count, |i| {
+                black_box(self.decoder.frame_decode(
+                    inner,
+                    outer,
+                    &self.received[i],
+                    mask,
+                    &mut scores,
+                    &mut penalties,
+                    &mut bytes,
+                ));
+                black_box((&mut scores, &mut penalties, &mut bytes));
+            }),
+            "part-length" => each(count, |_| {
+                black_box(part_length(black_box(mask), bytes.len()));
+            }),
+            "information-mask" => each(count, |_| {
+                black_box(information_mask(PAYLOAD, &mut bytes));
+                black_box(&mut bytes);
+            }),
+            "values-from-marks" => each(count, |i| {
+                let amplitudes = &self.amplitudes[i];
+                black_box(values_from_marks(amplitudes, &[0; 16], &mut values[..]));
+                black_box(&mut values);
+            }),
+            "sweep-follow" => {
+                let kernel = self.kernel.get_or_init(|| Kernel::new(inner));
+                let mut paid = Vec::new();
+                each(count, |i| {
+                    totals(kernel, &self.values[i], pay, &mut paid);
+                    black_box(kernel_scores(&paid, self.words[i]));
                 });
             }
-            "undo" => {
-                self.each(count, |i| {
-                    black_box(kernel_undo(kernel, self.words[i]));
-                });
-            }
-            "follow" => {
-                let mut scores = [0; 16];
-                self.each(count, |i| {
-                    black_box(kernel_follow(
-                        kernel,
-                        &self.values[i],
-                        self.words[i],
-                        &mut scores,
-                    ));
-                    black_box(&mut scores);
-                });
-            }
-            "frame-encode" => {
-                let mut word = [0; 32];
-                self.each(count, |i| {
-                    let payload = &self.payloads[i];
-                    black_box(frame_encode(kernel, kernel, &self.mask, payload, &mut word));
-                    black_box(&mut word);
-                });
-            }
-            "frame-undo" => {
-                let frames = self.frames(kernel);
-                let mut payload = [0; PAYLOAD];
-                self.each(count, |i| {
-                    let word = &frames[i];
-                    black_box(frame_undo(kernel, kernel, &self.mask, word, &mut payload));
-                    black_box(&mut payload);
-                });
-            }
-            "frame-decode" => {
-                let frames = self.frames(kernel);
-                let (mut scores, mut penalties) = ([0; 256], [0; 256]);
-                let mut payload = [0; PAYLOAD];
-                let received: Vec<[i8; 256]> = frames.iter().map(|word| received(word)).collect();
-                self.each(count, |i| {
-                    black_box(frame_decode(
-                        kernel,
-                        kernel,
-                        &received[i],
-                        &self.mask,
-                        &mut scores,
-                        &mut penalties,
-                        &mut payload,
-                    ));
-                    black_box((&mut scores, &mut penalties, &mut payload));
-                });
-            }
-            "values" => {
-                let mut values = [0; 256];
-                self.each(count, |i| {
-                    let amplitudes = &self.amplitudes[i];
-                    black_box(values_from_marks(amplitudes, &[0; 16], &mut values));
-                    black_box(&mut values);
-                });
-            }
+            "sweep-values" => each(count, |i| {
+                *values = self.amplitudes[i].map(|amplitude| value(amplitude.to_bits()));
+                black_box(&mut values);
+            }),
             _ => return false,
         }
         true
     }
+}
 
-    fn each(&self, count: u64, mut call: impl FnMut(usize)) {
-        for turn in 0..count {
-            call(turn as usize % INPUTS);
-        }
+/// As many inputs as a job is timed on.
+fn inputs<T>(one: impl FnMut() -> T) -> Vec<T> {
+    std::iter::repeat_with(one).take(INPUTS).collect()
+}
+
+/// Calls with the numbers of the inputs, one after another.
+fn each(count: u64, mut call: impl FnMut(usize)) {
+    for turn in 0..count {
+        call(turn as usize % INPUTS);
     }
 }
 
@@ -154,101 +228,58 @@ fn received(word: &[u8; 32]) -> [i8; 256] {
     })
 }
 
-const JOBS: [&str; 7] = [
-    "encode",
-    "undo",
-    "follow",
-    "frame-encode",
-    "frame-undo",
-    "frame-decode",
-    "values",
-];
-
-/// The kernels that a job is timed on; a job that takes none has `-`.
-fn kernels(job: &str) -> &'static [&'static str] {
-    match job {
-        "values" => &["-"],
-        _ => &["0", "1", "2"],
-    }
-}
-
-/// The number of a kernel, 0 for `-`.
-fn number(kernel: &str) -> Option<u8> {
-    match kernel {
-        "-" => Some(0),
-        _ => kernel.parse().ok(),
-    }
-}
-
 /// Nanoseconds of one call: the least of nine rounds.
-fn nanoseconds(calls: u64, round: impl Fn()) -> f64 {
+fn nanoseconds(inputs: &Inputs, job: &str) -> f64 {
+    let calls = match job {
+        "kernel-encode" | "kernel-undo" => 1_000_000,
+        "frame-follow" | "frame-decode" | "plain-decode" => 500,
+        "sweep-follow" | "sweep-values" => INPUTS as u64,
+        _ => 10_000,
+    };
     (0..9)
         .map(|_| {
             let start = Instant::now();
-            round();
+            inputs.run(job, calls);
             start.elapsed().as_secs_f64() * 1e9 / calls as f64
         })
         .fold(f64::INFINITY, f64::min)
 }
 
-/// One line for each job and kernel: nanoseconds of the library's call, and of the sweep's own way.
+/// One line for each job and kernel: nanoseconds of the library's call; what is timed beside it, and its nanoseconds.
 pub fn times() -> ExitCode {
-    let inputs = Inputs::new();
-    println!("job kernel ns sweep-ns");
-    for job in JOBS {
-        for name in kernels(job) {
-            let kernel = number(name).unwrap();
-            let calls = match job {
-                "encode" | "undo" => 1_000_000,
-                "frame-decode" => 500,
-                _ => 10_000,
-            };
-            let library = nanoseconds(calls, || {
-                inputs.run(job, kernel, calls);
-            });
-            println!("{job} {name} {library:.1} {}", own(&inputs, job, kernel));
+    println!("job kernel ns beside beside-ns");
+    for (job, kernels, beside) in JOBS {
+        for kernel in kernels {
+            let inputs = Inputs::new(pair(kernel).unwrap());
+            print!("{job} {kernel} {:.1} {beside} ", nanoseconds(&inputs, job));
+            if beside == "-" {
+                println!("-");
+            } else {
+                println!("{:.1}", nanoseconds(&inputs, beside));
+            }
         }
     }
     ExitCode::SUCCESS
 }
 
-/// Nanoseconds of the sweep's own follow and values; it has no other job to time, since its words stand in tables.
-fn own(inputs: &Inputs, job: &str, kernel: u8) -> String {
-    let time = match job {
-        "follow" => {
-            let kernel = Kernel::new(kernel);
-            nanoseconds(INPUTS as u64, || {
-                let mut paid = Vec::new();
-                inputs.each(INPUTS as u64, |i| {
-                    totals(&kernel, &inputs.values[i], pay, &mut paid);
-                    black_box(scores(&paid, inputs.words[i]));
-                });
-            })
-        }
-        "values" => nanoseconds(INPUTS as u64, || {
-            inputs.each(INPUTS as u64, |i| {
-                black_box(inputs.amplitudes[i].map(|amplitude| value(amplitude.to_bits())));
-            });
-        }),
-        _ => return String::from("-"),
-    };
-    format!("{time:.1}")
-}
-
 /// Only the calls, in a thread of their own, for tools that count their instructions or measure their stack.
 pub fn calls(job: &str, kernel: &str, count: &str) -> ExitCode {
-    let inputs = Inputs::new();
-    let ran = match (number(kernel), count.parse()) {
-        (Some(kernel), Ok(count)) => thread::scope(|scope| {
-            let calls = scope.spawn(|| inputs.run(job, kernel, count));
-            calls.join().unwrap()
-        }),
+    let ran = match (pair(kernel), count.parse()) {
+        (Some(pair), Ok(count)) => {
+            let inputs = Inputs::new(pair);
+            thread::scope(|scope| scope.spawn(|| inputs.run(job, count)).join().unwrap())
+        }
         _ => false,
     };
     if ran {
         ExitCode::SUCCESS
     } else {
-        eprintln!("sweep calls JOB KERNEL COUNT: JOB is one of {JOBS:?}");
+        let jobs: Vec<&str> = JOBS
+            .iter()
+            .flat_map(|&(job, _, beside)| [job, beside])
+            .filter(|&job| job != "-")
+            .collect();
+        eprintln!("sweep calls JOB KERNEL COUNT: JOB is one of {jobs:?}");
         ExitCode::from(2)
     }
 }
