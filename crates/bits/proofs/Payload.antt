@@ -208,16 +208,6 @@ frozen-first (false ∷ l) m (false ∷ u) v e f = ap suc (frozen-first l m u v 
 
 -- ---- packed
 
--- Packed symbols have no 1 at an unmarked phase.
-pub none-frozen : (mask payload : List ℕ)
-    → frozenOne (unpack mask) (unpack (pack (length mask) (spread (unpack mask) (unpack payload)))) ≡ 8 * length mask
-none-frozen mask payload =
-    let m = unpack mask in
-    let p = unpack payload in
-    ap (frozenOne m) (unpack-pack (length mask) (spread m p) (length-spread m p ∙ length-unpack mask))
-    ∙ frozen-spread m p
-    ∙ length-unpack mask
-
 -- A payload comes back from its packed symbols.
 pub payload-back : (mask payload : List ℕ) → ones (unpack mask) ≡ 8 * length payload → ((i : ℕ) → i < length payload → getD payload i 0 < 256)
     → pack (length payload) (gather (unpack mask) (unpack (pack (length mask) (spread (unpack mask) (unpack payload))))) ≡ payload

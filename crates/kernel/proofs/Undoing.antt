@@ -7,7 +7,7 @@ use lib.ListN.{length}
 use Rattle.base.specs.Bit.{bit, parity, tabulate}
 use Rattle.base.proofs.List.{length-tabulate}
 use Rattle.bits.specs.Packed.{bits, number}
-use Rattle.bits.proofs.Packed.{length-bits, bits-number, number-lt, number-bits-fit}
+use Rattle.bits.proofs.Packed.{length-bits, bits-number, number-bits-fit}
 use Rattle.answer.specs.Verdict.{word, wordOf}
 use Rattle.polar.specs.Code.{Code, Onto, UndoneBy}
 use Rattle.polar.specs.Kernel.{code}
@@ -53,17 +53,6 @@ module _ (k : ℕ) where
 
   fits : (l : List Bool) → length l ≡ 16 → bits 16 (number l) ≡ l
   fits l e = ap (λ n. bits n (number l)) (sym e) ∙ bits-number l
-
-  pub encoded-fits : (u : ℕ) → encoded k u < 2 ^ 16
-  unfolding encoded
-  encoded-fits u =
-      let l = tabulate 16 (wordBit k (bits 16 u)) in
-      rw (length-tabulate 16 (wordBit k (bits 16 u))) at (number-lt l)
-
-  pub undone-fits : (c : ℕ) → undone k c < 2 ^ 16
-  unfolding undone
-  undone-fits c =
-      rw (length-symbols-in (kernelCode k) (bits 16 c)) at (number-lt (symbolsOf k (bits 16 c)))
 
   -- Undo of encode, over all symbols,
   pub undone-encoded : (u : ℕ) → u < 2 ^ 16 → undone k (encoded k u) ≡ u

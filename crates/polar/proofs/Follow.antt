@@ -1,9 +1,9 @@
 -- Laws of the scores, the penalties and the decoder's symbols of a whole list. Assumes nothing.
 use mathlib.Core.Path.{_≡_, refl, sym, ap, ap₂, _∙_}
 use mathlib.Core.Bool.{Bool, true, false}
-use mathlib.Core.List.{List, [], _∷_, _++_, append-assoc, append-nil}
-use Prim.Native.Nat.{ℕ, zero, suc, _+_, _*_, _≤_, _<_}
-use native.Mathlib.Nat.{add-zero, zero-add, suc-add, suc-mul}
+use mathlib.Core.List.{List, [], _∷_, _++_}
+use Prim.Native.Nat.{ℕ, zero, suc, _+_, _≤_, _<_}
+use native.Mathlib.Nat.{add-zero, zero-add}
 use native.Mathlib.Numerals.{add-one}
 use native.Mathlib.Decide.{decLt}
 use native.Mathlib.Omega.{arith}
@@ -14,16 +14,15 @@ use lib.IntN.{ℤ, pos, negsuc, subℕ}
 use lib.Signed.{_≤ℤ_, _<ℤ_}
 use Rattle.base.specs.Bit.{bit, tabulate}
 use Rattle.base.proofs.List.{length-tabulate, tabulate-at, tabulate-cong, tabulate-next}
-use Rattle.polar.specs.Code.{Code, Costs, pay, least, score, Onto}
+use Rattle.polar.specs.Code.{Code, Costs, pay, least, score}
 use Rattle.polar.specs.Follow.{scores, penalties, choose, decodeFrom, decode}
-use Rattle.polar.specs.Stages.{rows, staged, soft}
 use Rattle.polar.proofs.Least.{least-cong, score-least}
-use Rattle.polar.proofs.Values.{penalty-next, layer-scores}
+use Rattle.polar.proofs.Values.{penalty-next}
 
 snoc-length : (q : List Bool) (b : Bool) → length (q ++ (b ∷ [])) ≡ suc (length q)
 snoc-length q b = length-append q (b ∷ []) ∙ add-one (length q)
 
--- One more symbol: one more score,
+-- One more symbol: one more score.
 pub scores-next : (C : Code) (m : Costs) (q : List Bool) (b : Bool) → scores C m (q ++ (b ∷ [])) ≡ scores C m q ++ (score C m q ∷ [])
 unfolding scores
 scores-next C m q b =
@@ -31,17 +30,6 @@ scores-next C m q b =
     ∙ tabulate-next (length q) (λ i. score C m (take i (q ++ (b ∷ [])))) (λ i. score C m (take i q))
     (λ i l. ap (score C m) (take-append-le i q (b ∷ []) (omega arith)))
     ∙ ap (λ s. tabulate (length q) (λ i. score C m (take i q)) ++ (score C m s ∷ [])) (take-append-seam q (b ∷ []))
-
--- and one more penalty.
-pub penalties-next : (C : Code) (m : Costs) (q : List Bool) (b : Bool)
-    → penalties C m (q ++ (b ∷ [])) ≡ penalties C m q ++ (least C m (q ++ (b ∷ [])) ∷ [])
-unfolding penalties
-penalties-next C m q b =
-    ap (λ n. tabulate n (λ i. least C m (take (suc i) (q ++ (b ∷ []))))) (snoc-length q b)
-    ∙ tabulate-next (length q) (λ i. least C m (take (suc i) (q ++ (b ∷ [])))) (λ i. least C m (take (suc i) q))
-    (λ i l. ap (least C m) (take-append-le (suc i) q (b ∷ []) (omega arith)))
-    ∙ ap (λ s. tabulate (length q) (λ i. least C m (take (suc i) q)) ++ (least C m s ∷ []))
-    (take-all (suc (length q)) (q ++ (b ∷ [])) (omega (arith, snoc-length q b)))
 
 pub scores-at : (C : Code) (m : Costs) (u : List Bool) (i : ℕ) (d : ℤ) → i < length u → getD (scores C m u) i d ≡ score C m (take i u)
 unfolding scores
@@ -91,13 +79,6 @@ choose-one (negsuc y) h = refl
 -- at any other phase 0.
 pub choose-frozen : (s : ℤ) → choose false s ≡ false
 choose-frozen s = refl
-
--- Some phases, and then others.
-pub decode-add : (C : Code) (m : Costs) (mask : ℕ → Bool) (k l : ℕ) (q : List Bool)
-    → decodeFrom C m mask (k + l) q ≡ decodeFrom C m mask l (decodeFrom C m mask k q)
-unfolding decodeFrom
-decode-add C m mask zero l q = rw zero-add
-decode-add C m mask (suc k) l q = rw suc-add (decode-add C m mask k l (q ++ (choose (mask (length q)) (score C m q) ∷ [])))
 
 pub length-decodeFrom : (C : Code) (m : Costs) (mask : ℕ → Bool) (k : ℕ) (q : List Bool) → length (decodeFrom C m mask k q) ≡ length q + k
 unfolding decodeFrom
@@ -167,28 +148,3 @@ pub decode-only : (C : Code) (m : Costs) (mask : ℕ → Bool) (u : List Bool) �
 unfolding decode
 decode-only C m mask u e h =
     sym (ap (λ n. decodeFrom C m mask n []) (sym e) ∙ decode-from-only C m mask u (λ i l. h i (rw (← e) l)) (length u) zero (zero-add (length u)))
-
--- ---- the rows of two stages
-
--- A row is decoded by the inner code, over its soft values.
-pub decode-row : (A B : Code) → Onto A → (m : Costs) (mask : ℕ → Bool) (r : ℕ) (u : List Bool) → length u ≡ r * A .size → r < B .size
-    → (k : ℕ) (p : List Bool) → length p + k ≤ A .size
-    → decodeFrom (staged A B) m mask k (u ++ p) ≡ u ++ decodeFrom A (soft A B m (rows (A .size) r u)) (λ i. mask (r * A .size + i)) k p
-unfolding decodeFrom
-decode-row A B onto m mask r u e lr zero p lp = refl
-decode-row A B onto m mask r u e lr (suc k) p lp =
-    let d = soft A B m (rows (A .size) r u) in
-    let b = choose (mask (r * A .size + length p)) (score A d p) in
-    let eb = ap₂ (λ i s. choose (mask i) s) (length-append u p ∙ ap (λ x. x + length p) e) (layer-scores A B onto m r u p e lr (omega arith)) in
-    ap (decodeFrom (staged A B) m mask k) (ap (λ c. u ++ p ++ (c ∷ [])) eb ∙ append-assoc u p (b ∷ []))
-    ∙ decode-row A B onto m mask r u e lr k (p ++ (b ∷ [])) (simp length-append (omega arith))
-
--- One row more.
-pub decode-rows : (A B : Code) → Onto A → (m : Costs) (mask : ℕ → Bool) (r : ℕ) → r < B .size
-    → (u : List Bool) → u ≡ decodeFrom (staged A B) m mask (r * A .size) []
-    → decodeFrom (staged A B) m mask (suc r * A .size) []
-    ≡ u ++ decodeFrom A (soft A B m (rows (A .size) r u)) (λ i. mask (r * A .size + i)) (A .size) []
-decode-rows A B onto m mask r lr u e =
-    let lu : length u ≡ r * A .size = ap length e ∙ length-decodeFrom (staged A B) m mask (r * A .size) [] ∙ zero-add (r * A .size) in
-    rw (suc-mul, decode-add, ← e)
-    (rw append-nil at (decode-row A B onto m mask r u lu lr (A .size) [] (omega arith)))

@@ -109,10 +109,6 @@ module _ (rs : List Relation) (window : List ℕ) (sol : List Relation) (k : Win
   pub path-symbols : (us x : List Bool) → length us ≡ length rs → length x ≡ length window → symbols rs (pathOf sol us x) ≡ us
   path-symbols us x lu lx = (path-both us x lu lx) .0
 
-  -- and its bits at the window's places;
-  pub path-at : (us x : List Bool) → length us ≡ length rs → length x ≡ length window → readAt window (pathOf sol us x) ≡ x
-  path-at us x lu lx = (path-both us x lu lx) .1
-
   -- and every list with these symbols is the path of its bits at the window's places.
   pub path-read : (us q : List Bool) → length q ≡ height rs → symbols rs q ≡ us → pathOf sol us (readAt window q) ≡ q
   path-read us q lq e =
