@@ -22,10 +22,10 @@ rows-of-requires : tie.Need-rows-of-requires
 rows-of-requires c κs = search needs
 
 kernel-rows-requires : tie.Need-kernel-rows-requires
-kernel-rows-requires c κs = c .before .before .before .before .before .before .before .pre .0 .0
+kernel-rows-requires c κs = search needs
 
 kernel-rows-requires-2 : tie.Need-kernel-rows-requires-2
-kernel-rows-requires-2 c κs = c .before .before .before .before .before .before .before .before .pre .0 .1
+kernel-rows-requires-2 c κs = search needs
 
 frame-rows-requires : tie.Need-frame-rows-requires
 frame-rows-requires c κs = search needs

@@ -9,10 +9,10 @@ rows-of-requires : tie.Need-rows-of-requires
 rows-of-requires c κs = search needs
 
 inverse-rows-requires : tie.Need-inverse-rows-requires
-inverse-rows-requires c κs = c .before .before .pre .1
+inverse-rows-requires c κs = search needs
 
 inverse-rows-requires-2 : tie.Need-inverse-rows-requires-2
-inverse-rows-requires-2 c κs = c .before .before .before .pre .0
+inverse-rows-requires-2 c κs = search needs
 
 frame-rows-requires : tie.Need-frame-rows-requires
 frame-rows-requires c κs = search needs
