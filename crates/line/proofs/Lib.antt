@@ -2,3 +2,4 @@ pub mod Stored
 pub mod Text
 pub mod Complement
 pub mod Printed
+pub mod Reading
