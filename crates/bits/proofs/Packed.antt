@@ -458,10 +458,6 @@ unpack-pack n l e = unpack-pack-pad n l ∙ pad-whole (8 * n) l e
 pub packed : (s : List ℕ) (n : ℕ) (l : List Bool) → length s ≡ n → ((i : ℕ) → i < length s → getD s i 0 < 256) → unpack s ≡ l → pack n l ≡ s
 packed s n l e h u = rw (← e, ← u) (pack-unpack s h)
 
--- To fill the bits up first changes nothing.
-pub pack-pad : (n : ℕ) (l : List Bool) → pack n (pad (8 * n) l) ≡ pack n l
-pack-pad n l = packed (pack n l) n (pad (8 * n) l) (length-pack n l) (λ i h. pack-lt n l i) (unpack-pack-pad n l)
-
 -- The first bytes are the first bits, packed.
 pub take-pack : (n m : ℕ) (l : List Bool) → n ≤ m → take n (pack m l) ≡ pack n l
 unfolding pack

@@ -1,20 +1,20 @@
-// A frame's run: row after row, sixteen outer kernels and the inner one over their scores.
+// Frame follow and frame decode: row after row, sixteen outer kernels and the inner one over their scores.
 ghost use mathlib.Core.Path.{_≡_};
 ghost use mathlib.Core.Bool.{Bool};
+ghost use mathlib.Core.List.{[]};
 ghost use Prim.Native.Nat.{ℕ, _+_, _*_, _≤_, _<_};
 ghost use lib.IntN.{pos};
 ghost use lib.ListN.{length, getD};
 ghost use lib.Seq.{paste};
 ghost use Rattle.polar.specs.Code.{channel};
 ghost use Rattle.folds.specs.Range.{firstOutside};
+ghost use Rattle.folds.specs.Rows.{Within};
 ghost use Rattle.layers.specs.Layers.{costsAt};
 ghost use Rattle.answer.specs.Verdict.{verdict, done, settle};
 ghost use Rattle.mask.specs.Mask.{payloadBytes};
 ghost use Rattle.decode.specs.Run.{RunOf};
 ghost use Rattle.decode.specs.Jobs.{followChecks, frameFollow, decodeChecks, frameDecode};
 use answer::Answer;
-ghost use Rattle.folds.specs.Rows.{Within};
-ghost use mathlib.Core.List.{[]};
 
 // The lowest index whose value lies outside -127 to 127, or the number of values.
 fn first_low(values: &[i8]) -> usize

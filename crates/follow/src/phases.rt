@@ -1,4 +1,4 @@
-// The tables of the phases, certified against the relations in proofs/Tables.antt.
+// The tables of the phases, certified against the relations in windows/proofs/Tables.antt.
 
 // For each phase of each kernel: the highest v that the relations up to it use, and 1 where they reach no further than before.
 pub const SHAPES: [[[u8; 2]; 16]; 3] = [
