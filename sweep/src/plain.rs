@@ -2,9 +2,10 @@
 use plain_decoder::Decoder;
 
 use crate::frame::{unpacked, word, Bits};
-use crate::library::{frame_decode, Outcome};
+use crate::library::Outcome;
 use crate::paper::Kernel;
 use crate::random::Random;
+use crate::recorded::frame_decode;
 use crate::tally::Tally;
 
 /// What a decoder hands out.

@@ -1,0 +1,228 @@
+/*
+ * Every function of the header, called with known cases. The first one that is
+ * not as expected is named, and the exit status is then 1.
+ */
+#include <math.h>
+#include <stdint.h>
+#include <stdio.h>
+#include <stdlib.h>
+#include <string.h>
+
+#include "nospridda.h"
+
+enum {
+    SYMBOLS = 256,   /* coded bits of a frame */
+    WORD_BYTES = 32, /* the same, packed */
+    MARK_BYTES = 16  /* one bit for each of 128 marks */
+};
+
+/* Ends the program unless something holds. */
+static void expect(int holds, const char *what)
+{
+    if (!holds) {
+        fprintf(stderr, "c/header.c: not as expected: %s\n", what);
+        exit(EXIT_FAILURE);
+    }
+}
+
+/* Ends the program unless an outcome has this number and place. */
+static void outcome(struct nospridda_outcome got, uint32_t number, size_t place, const char *what)
+{
+    if (got.number != number || got.place != place) {
+        fprintf(stderr, "c/header.c: %s: number %u and place %zu, expected %u and %zu\n", what,
+                (unsigned)got.number, got.place, (unsigned)number, place);
+        exit(EXIT_FAILURE);
+    }
+}
+
+/* The same with the word. */
+static void word_outcome(struct nospridda_word_outcome got, uint32_t number, uint16_t word, const char *what)
+{
+    if (got.number != number || got.place != 0 || got.word != word) {
+        fprintf(stderr, "c/header.c: %s: number %u, place %zu and word %04x, expected %u, 0 and %04x\n", what,
+                (unsigned)got.number, got.place, (unsigned)got.word, (unsigned)number, (unsigned)word);
+        exit(EXIT_FAILURE);
+    }
+}
+
+/* Bit i of sixteen: index 0 is the most significant. */
+static int word_bit(uint16_t word, size_t i)
+{
+    return (word >> (15 - i)) & 1;
+}
+
+static void set_bit(uint8_t *bytes, size_t i)
+{
+    bytes[i / 8] |= (uint8_t)(0x80 >> (i % 8));
+}
+
+static void kernels(void)
+{
+    word_outcome(nospridda_kernel_encode(1, 0x0040), NOSPRIDDA_ACCEPTED, 0xa6c0, "kernel encode");
+    word_outcome(nospridda_kernel_encode(0, 0x0400), NOSPRIDDA_ACCEPTED, 0xcc00, "kernel encode, kernel 0");
+    word_outcome(nospridda_kernel_undo(1, 0xa6c0), NOSPRIDDA_ACCEPTED, 0x0040, "kernel undo");
+    word_outcome(nospridda_kernel_encode(3, 0x0040), NOSPRIDDA_NO_KERNEL, 0, "kernel encode, kernel 3");
+    word_outcome(nospridda_kernel_undo(3, 0xa6c0), NOSPRIDDA_NO_KERNEL, 0, "kernel undo, kernel 3");
+}
+
+static void kernel_follow(void)
+{
+    static const int16_t first[16] = {1, 2, 2, 2, 2, 4, 4, 4, 4, 6, 6, 8, 8, 8, 8, 16};
+    static const int16_t second[16] = {1, 2, 2, 4, 2, 2, 4, 4, 6, 6, 8, 8, 4, 8, 8, 16};
+    int16_t values[16];
+    int16_t scores[16] = {0};
+    size_t i;
+
+    for (i = 0; i < 16; i++) {
+        values[i] = 1;
+    }
+    outcome(nospridda_kernel_follow(1, values, 16, 0, scores, 16), NOSPRIDDA_ACCEPTED, 0, "kernel follow, kernel 1");
+    expect(memcmp(scores, first, sizeof scores) == 0, "the profile of kernel 1");
+    outcome(nospridda_kernel_follow(2, values, 16, 0, scores, 16), NOSPRIDDA_ACCEPTED, 0, "kernel follow, kernel 2");
+    expect(memcmp(scores, second, sizeof scores) == 0, "the profile of kernel 2");
+
+    /* The word of symbol 0 has a single 1, and so has that of symbols 0 and 1. */
+    outcome(nospridda_kernel_follow(2, values, 16, 0x8000, scores, 16), NOSPRIDDA_ACCEPTED, 0,
+            "kernel follow, symbol 0 set");
+    expect(scores[0] == 1 && scores[1] == 0, "scores after symbol 0");
+
+    values[5] = -2048;
+    outcome(nospridda_kernel_follow(2, values, 16, 0, scores, 16), NOSPRIDDA_VALUE_OUT_OF_RANGE, 5,
+            "kernel follow, a value out of range");
+}
+
+static void masks(uint8_t *mask)
+{
+    static const size_t phases[8] = {191, 223, 239, 250, 251, 253, 254, 255};
+    uint8_t marked[WORD_BYTES] = {0};
+    size_t i;
+
+    for (i = 0; i < 8; i++) {
+        set_bit(marked, phases[i]);
+    }
+    outcome(nospridda_information_mask(1, mask, WORD_BYTES), NOSPRIDDA_ACCEPTED, 0, "information mask");
+    expect(memcmp(mask, marked, sizeof marked) == 0, "the information mask of one byte");
+    outcome(nospridda_information_mask(33, mask, WORD_BYTES), NOSPRIDDA_WRONG_SIZE, 0, "information mask, 33 bytes");
+    expect(nospridda_part_length(mask, WORD_BYTES, WORD_BYTES) == 1, "part length");
+    expect(nospridda_part_length(mask, WORD_BYTES, 31) == 0, "part length of a buffer of 31 bytes");
+}
+
+/* Inner kernel 1, outer kernel 2, and a payload whose only 1 is the symbol of
+ * phase 250 = 16 * 15 + 10: row 10 of kernel 1 is 6ca0, row 15 of kernel 2 is
+ * all ones. */
+static void frames(const uint8_t *mask)
+{
+    static const uint8_t sent = 0x10;
+    uint8_t expected[WORD_BYTES] = {0};
+    uint8_t word[WORD_BYTES] = {0};
+    int8_t values[SYMBOLS];
+    int16_t scores[SYMBOLS] = {0};
+    uint16_t penalties[SYMBOLS] = {0};
+    uint8_t payload = 0;
+    size_t i;
+
+    for (i = 0; i < SYMBOLS; i++) {
+        int one = word_bit(0x6ca0, i / 16);
+        if (one) {
+            set_bit(expected, i);
+        }
+        values[i] = one ? -127 : 127;
+    }
+    outcome(nospridda_frame_encode(1, 2, mask, WORD_BYTES, &sent, 1, word, sizeof word), NOSPRIDDA_ACCEPTED, 0,
+            "frame encode");
+    expect(memcmp(word, expected, sizeof word) == 0, "the word of a frame");
+    outcome(nospridda_frame_encode(1, 2, mask, WORD_BYTES, &sent, 0, word, sizeof word), NOSPRIDDA_WRONG_PAYLOAD, 0,
+            "frame encode, no payload");
+
+    outcome(nospridda_frame_undo(1, 2, mask, WORD_BYTES, word, sizeof word, &payload, 1), NOSPRIDDA_ACCEPTED, 0,
+            "frame undo");
+    expect(payload == sent, "the payload of a word");
+    /* Symbol 1, which is not marked: bits 0 and 16. */
+    word[0] ^= 0x80;
+    word[2] ^= 0x80;
+    outcome(nospridda_frame_undo(1, 2, mask, WORD_BYTES, word, sizeof word, &payload, 1), NOSPRIDDA_FROZEN_ONE, 1,
+            "frame undo, symbol 1 set");
+
+    payload = 0;
+    outcome(nospridda_frame_decode(1, 2, values, SYMBOLS, mask, WORD_BYTES, scores, SYMBOLS, penalties, SYMBOLS,
+                                   &payload, 1),
+            NOSPRIDDA_ACCEPTED, 0, "frame decode");
+    expect(payload == sent, "the decoded payload");
+    expect(scores[250] < 0 && scores[255] == 32512, "the scores of the decoder");
+    for (i = 0; i < SYMBOLS; i++) {
+        expect(penalties[i] == 0, "the penalties of the decoder");
+    }
+    values[200] = -128;
+    outcome(nospridda_frame_decode(1, 2, values, SYMBOLS, mask, WORD_BYTES, scores, SYMBOLS, penalties, SYMBOLS,
+                                   &payload, 1),
+            NOSPRIDDA_VALUE_OUT_OF_RANGE, 200, "frame decode, a value out of range");
+}
+
+static void frame_follow(void)
+{
+    int8_t values[SYMBOLS];
+    uint8_t symbols[WORD_BYTES] = {0};
+    int16_t scores[SYMBOLS] = {0};
+    uint16_t penalties[SYMBOLS];
+    size_t i;
+
+    for (i = 0; i < SYMBOLS; i++) {
+        values[i] = 127;
+        penalties[i] = 1;
+    }
+    outcome(nospridda_frame_follow(2, 2, values, SYMBOLS, symbols, sizeof symbols, scores, SYMBOLS, penalties, SYMBOLS),
+            NOSPRIDDA_ACCEPTED, 0, "frame follow");
+    expect(scores[0] == 127 && scores[255] == 32512, "the scores of frame follow");
+    for (i = 0; i < SYMBOLS; i++) {
+        expect(penalties[i] == 0, "the penalties of frame follow");
+    }
+
+    /* Number 3 of the profiles is 2 for kernel 1 and 4 for kernel 2. The word of symbol 255 is all ones. */
+    symbols[31] = 1;
+    outcome(nospridda_frame_follow(1, 2, values, SYMBOLS, symbols, sizeof symbols, scores, SYMBOLS, penalties, SYMBOLS),
+            NOSPRIDDA_ACCEPTED, 0, "frame follow, kernels 1 and 2");
+    expect(scores[3] == 2 * 127 && scores[16 * 3] == 4 * 127, "the scores of kernels 1 and 2");
+    expect(penalties[254] == 0 && penalties[255] == 32512, "the penalties of symbol 255");
+
+    values[200] = -128;
+    outcome(nospridda_frame_follow(2, 2, values, SYMBOLS, symbols, sizeof symbols, scores, SYMBOLS, penalties, SYMBOLS),
+            NOSPRIDDA_VALUE_OUT_OF_RANGE, 200, "frame follow, a value out of range");
+}
+
+static void marks(void)
+{
+    float amplitudes[SYMBOLS] = {1.0f, 0.015625f, 0.046875f, -8.0f};
+    uint8_t blanked[MARK_BYTES] = {0};
+    int8_t values[SYMBOLS];
+    size_t i;
+
+    memset(values, 1, sizeof values);
+    outcome(nospridda_values_from_marks(amplitudes, SYMBOLS, blanked, sizeof blanked, values, SYMBOLS),
+            NOSPRIDDA_ACCEPTED, 0, "values from marks");
+    expect(values[0] == 32 && values[1] == 0 && values[2] == 2 && values[3] == -127, "the values of four amplitudes");
+    for (i = 4; i < SYMBOLS; i++) {
+        expect(values[i] == 0, "the values of amplitudes 0");
+    }
+
+    amplitudes[9] = NAN;
+    outcome(nospridda_values_from_marks(amplitudes, SYMBOLS, blanked, sizeof blanked, values, SYMBOLS),
+            NOSPRIDDA_NOT_FINITE, 9, "values from marks, NaN heard");
+    set_bit(blanked, 4);
+    outcome(nospridda_values_from_marks(amplitudes, SYMBOLS, blanked, sizeof blanked, values, SYMBOLS),
+            NOSPRIDDA_ACCEPTED, 0, "values from marks, NaN blanked");
+    expect(values[0] == 32 && values[9] == 0, "the values with a blanked mark");
+}
+
+int main(void)
+{
+    uint8_t mask[WORD_BYTES] = {0};
+
+    kernels();
+    kernel_follow();
+    masks(mask);
+    frames(mask);
+    frame_follow();
+    marks();
+    printf("all ten functions answer through the header\n");
+    return EXIT_SUCCESS;
+}
