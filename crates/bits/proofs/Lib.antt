@@ -1,4 +1,1 @@
 pub mod Packed
-pub mod Payload
-pub mod Tables
-pub mod Turns

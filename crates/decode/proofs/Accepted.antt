@@ -12,7 +12,7 @@ use Rattle.base.specs.Bit.{bit}
 use Rattle.base.proofs.Bool.{or-eq-false}
 use Rattle.base.proofs.List.{same-bits, tabulate-at}
 use Rattle.bits.specs.Packed.{bits, unpack, pack}
-use Rattle.bits.specs.Payload.{ones, gather}
+use Rattle.payload.specs.Payload.{ones, gather}
 use Rattle.bits.proofs.Packed.{length-unpack, length-pack, unpack-pack, zero-at}
 use Rattle.answer.specs.Verdict.{Verdict, done, isAccepted, Check, settle, after}
 use Rattle.answer.proofs.Settle.{None, none-of, settle-none, after-refused}

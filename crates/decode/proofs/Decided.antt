@@ -10,7 +10,7 @@ use lib.ListN.{length}
 use Rattle.base.specs.Bit.{bit}
 use Rattle.base.proofs.Bool.{or-eq-false}
 use Rattle.bits.specs.Packed.{unpack, pack}
-use Rattle.bits.specs.Payload.{gather}
+use Rattle.payload.specs.Payload.{gather}
 use Rattle.bits.proofs.Packed.{length-pack, unpack-pack}
 use Rattle.answer.specs.Verdict.{Verdict, done, isAccepted, settle, after}
 use Rattle.answer.proofs.Settle.{None, none-of, settle-none}

@@ -7,7 +7,7 @@ use lib.IntN.{ℤ}
 use lib.ListN.{length}
 use Rattle.base.specs.Bit.{bit}
 use Rattle.bits.specs.Packed.{unpack, pack}
-use Rattle.bits.specs.Payload.{gather}
+use Rattle.payload.specs.Payload.{gather}
 use Rattle.answer.specs.Verdict.{Verdict, done, Check, condition, conditionAt, settle, after}
 use Rattle.mask.specs.Mask.{marked, badMask}
 use Rattle.polar.specs.Code.{channel}

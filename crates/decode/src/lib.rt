@@ -286,6 +286,6 @@ pub fn frame_decode(
     );
     let mut symbols = [0u8; 32];
     grid::store_rows(&rows, &mut symbols);
-    bits::gather(mask, &symbols, payload);
+    payload::gather(mask, &symbols, payload);
     Answer::Done
 }

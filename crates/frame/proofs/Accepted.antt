@@ -10,7 +10,7 @@ use lib.ListN.{length, drop}
 use Rattle.base.specs.Bit.{tabulate}
 use Rattle.base.proofs.Bool.{or-eq-false}
 use Rattle.bits.specs.Packed.{unpack, pack}
-use Rattle.bits.specs.Payload.{ones, spread, gather, frozenOne}
+use Rattle.payload.specs.Payload.{ones, spread, gather, frozenOne}
 use Rattle.bits.proofs.Packed.{length-pack}
 use Rattle.answer.specs.Verdict.{Verdict, done, refused, isAccepted, Check, conditionAt, settle, after}
 use Rattle.answer.proofs.Settle.{None, none-of, settle-none, settle-append, settle-stopped, after-refused}

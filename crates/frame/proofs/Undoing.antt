@@ -12,9 +12,9 @@ use Rattle.base.specs.Bit.{tabulate}
 use Rattle.base.proofs.Bool.{or-eq-false}
 use Rattle.base.proofs.List.{length-tabulate}
 use Rattle.bits.specs.Packed.{unpack, pack}
-use Rattle.bits.specs.Payload.{ones, spread, gather, frozenOne}
+use Rattle.payload.specs.Payload.{ones, spread, gather, frozenOne}
 use Rattle.bits.proofs.Packed.{length-unpack, length-pack, pack-lt, unpack-pack, packed}
-use Rattle.bits.proofs.Payload.{length-spread, length-gather, gather-spread, spread-gather, frozen-spread, frozen-le}
+use Rattle.payload.proofs.Payload.{length-spread, length-gather, gather-spread, spread-gather, frozen-spread, frozen-le}
 use Rattle.answer.specs.Verdict.{Verdict, done, refused, isAccepted, settle, after}
 use Rattle.answer.proofs.Settle.{None, none-of, settle-none}
 use Rattle.mask.specs.Mask.{marked, badMask, payloadBytes}

@@ -6,7 +6,7 @@ use lib.Dec.{eqb, ltb}
 use lib.ListN.{length}
 use Rattle.base.specs.Bit.{tabulate}
 use Rattle.bits.specs.Packed.{unpack, pack}
-use Rattle.bits.specs.Payload.{spread, gather, frozenOne}
+use Rattle.payload.specs.Payload.{spread, gather, frozenOne}
 use Rattle.answer.specs.Verdict.{Verdict, done, Check, condition, conditionAt, settle, after}
 use Rattle.mask.specs.Mask.{marked, badMask}
 use Rattle.polar.specs.Code.{symbolsIn}

@@ -4,7 +4,7 @@ ghost use Prim.Native.Nat.{_*_, _<_};
 ghost use lib.ListN.{length};
 ghost use Rattle.base.specs.Bit.{tabulate};
 ghost use Rattle.bits.specs.Packed.{unpack};
-ghost use Rattle.bits.specs.Payload;
+ghost use Rattle.payload.specs.Payload;
 ghost use Rattle.answer.specs.Verdict.{verdict, done, settle};
 ghost use Rattle.mask.specs.Mask.{payloadBytes};
 ghost use Rattle.grid.specs.Grid.{rowsBits};
@@ -42,7 +42,7 @@ fn payload_word(inner: u8, outer: u8, mask: &[u8], payload: &[u8]) -> [u16; 16]
     ensures { λ r. ⌜ rowsBits r ≡ tabulate 256 ((frameCode inner outer) .word (Payload.spread (unpack (now (mask .entry))) (unpack (now (payload .entry))))) ⌝ }
 {
     let mut symbols = [0u8; 32];
-    bits::spread(mask, payload, &mut symbols);
+    payload::spread(mask, payload, &mut symbols);
     let rows = grid::rows_of(&symbols);
     grid::frame_rows(kernel::kernel_rows(inner), kernel::kernel_rows(outer), rows)
 }
@@ -116,10 +116,10 @@ pub fn frame_undo(inner: u8, outer: u8, mask: &[u8], word: &[u8], payload: &mut 
         return request;
     }
     let symbols = word_symbols(inner, outer, word);
-    let phase = bits::frozen_one(mask, &symbols);
+    let phase = payload::frozen_one(mask, &symbols);
     if phase < 256 {
         return Answer::FrozenOne(phase);
     }
-    bits::gather(mask, &symbols, payload);
+    payload::gather(mask, &symbols, payload);
     Answer::Done
 }

@@ -9,9 +9,9 @@ use lib.Dec.{eqb, eqb·suc-zero}
 use lib.ListN.{length}
 use Rattle.base.proofs.Bool.{or-eq-false}
 use Rattle.bits.specs.Packed.{unpack}
-use Rattle.bits.specs.Payload.{ones}
+use Rattle.payload.specs.Payload.{ones}
 use Rattle.bits.proofs.Packed.{length-unpack}
-use Rattle.bits.proofs.Payload.{ones-le}
+use Rattle.payload.proofs.Payload.{ones-le}
 use Rattle.mask.specs.Mask.{marked, badMask, payloadBytes, partLength}
 
 eighth : (k : ℕ) → k % 8 ≡ 0 → elim (eqb k 0 || not (eqb (k % 8) 0)) [ true ↦ 0 | false ↦ k / 8 ] ≡ k / 8

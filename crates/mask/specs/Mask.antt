@@ -5,7 +5,7 @@ use Prim.Native.Nat.{ℕ, _/_, _%_}
 use lib.Dec.{eqb}
 use lib.ListN.{length, take}
 use Rattle.bits.specs.Packed.{unpack}
-use Rattle.bits.specs.Payload.{ones}
+use Rattle.payload.specs.Payload.{ones}
 
 -- How many phases a mask marks. The paper's k.
 unfoldable pub marked : List ℕ → ℕ

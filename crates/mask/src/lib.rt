@@ -10,7 +10,7 @@ pub fn payload_bytes(mask: &[u8]) -> usize
     if mask.len() != 32 {
         return 0;
     }
-    let k = bits::count(mask);
+    let k = payload::count(mask);
     if k % 8 != 0 {
         return 0;
     }

@@ -1,9 +1,9 @@
--- `bits::marks` meets its contract. Assumes nothing.
+-- `payload::marks` meets its contract. Assumes nothing.
 use native.Mathlib.Omega.{arith}
 use borrow.Author.Needs.{needs}
-use Rattle.bits.proofs.Tables.{marks-le, marks-made}
-use Rattle.bits.proofs.marks.Statement.{statement}
-use Rattle.bits.proofs.marks.Tie as tie
+use Rattle.payload.proofs.Tables.{marks-le, marks-made}
+use Rattle.payload.proofs.marks.Statement.{statement}
+use Rattle.payload.proofs.marks.Tie as tie
 
 cast-result : tie.Need-cast-result
 cast-result c = search needs

@@ -1,4 +1,4 @@
--- `bits::gather` meets its contract: the first j bytes are stored, and the bits that are held and those of the bytes that are left are the rest. Assumes nothing.
+-- `payload::gather` meets its contract: the first j bytes are stored, and the bits that are held and those of the bytes that are left are the rest. Assumes nothing.
 use mathlib.Core.Path.{_≡_, refl, sym, ap, ap₂, _∙_}
 use mathlib.Core.Bool.{Bool}
 use mathlib.Core.List.{List, _++_}
@@ -12,15 +12,15 @@ use lib.Pow.{pow-mono, shl-exact, shl-lt}
 use lib.Seq.{drop-length}
 use Rattle.base.specs.Bit.{tabulate}
 use Rattle.base.proofs.List.{filled, fill-next}
 use Rattle.bits.specs.Packed.{bits, number, unpack}
-use Rattle.bits.specs.Payload.{ones, gather}
-use Rattle.bits.specs.Tables.{onesTable, gatherTable}
+use Rattle.payload.specs.Payload.{ones, gather}
+use Rattle.payload.specs.Tables.{onesTable, gatherTable}
 use Rattle.bits.proofs.Packed.{length-unpack, byteAt, pack-bytes}
-use Rattle.bits.proofs.Payload.{ones-le, ones-next}
-use Rattle.bits.proofs.Tables.{marks-le}
-use Rattle.bits.proofs.Turns.{gather-turn, gather-store}
-use Rattle.bits.proofs.gather.Statement.{statement}
-use Rattle.bits.proofs.gather.Tie as tie
+use Rattle.payload.proofs.Payload.{ones-le, ones-next}
+use Rattle.payload.proofs.Tables.{marks-le}
+use Rattle.payload.proofs.Bytes.{gather-turn, gather-store}
+use Rattle.payload.proofs.gather.Statement.{statement}
+use Rattle.payload.proofs.gather.Tie as tie
 
 -- All the marked symbols.
 abbrev all : List ℕ → List ℕ → List Bool

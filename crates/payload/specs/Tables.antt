@@ -2,8 +2,8 @@
 use mathlib.Core.List.{List}
 use Prim.Native.Nat.{ℕ}
 use Rattle.base.specs.Bit.{tabulate}
 use Rattle.bits.specs.Packed.{bits, number}
-use Rattle.bits.specs.Payload.{ones, spread, gather}
+use Rattle.payload.specs.Payload.{ones, spread, gather}
 
 -- How many of four phases are marked.
 unfoldable pub onesTable : List ℕ

@@ -1,15 +1,15 @@
--- `bits::gather_byte` meets its contract. Assumes nothing.
+-- `payload::gather_byte` meets its contract. Assumes nothing.
 use mathlib.Core.Path.{_≡_}
 use mathlib.Core.List.{[]}
 use Prim.Native.Nat.{_+_, _*_, _/_, _%_, _^_, _≤_}
 use native.Mathlib.Omega.{arith}
 use borrow.Author.Needs.{needs}
 use lib.ListN.{getD}
 use Rattle.bits.specs.Packed.{bits, number}
-use Rattle.bits.specs.Payload.{gather}
-use Rattle.bits.proofs.Tables.{ones-four, gather-byte-lt, gather-made}
-use Rattle.bits.proofs.gather_byte.Statement.{statement}
-use Rattle.bits.proofs.gather_byte.Tie as tie
+use Rattle.payload.specs.Payload.{gather}
+use Rattle.payload.proofs.Tables.{ones-four, gather-byte-lt, gather-made}
+use Rattle.payload.proofs.gather_byte.Statement.{statement}
+use Rattle.payload.proofs.gather_byte.Tie as tie
 
 cast-h : tie.Need-cast-h
 cast-h c = search needs

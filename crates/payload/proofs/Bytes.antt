@@ -11,10 +11,10 @@ use lib.ListN.{length, getD, drop}
 use lib.Pow.{high, low}
 use lib.Seq.{drop-drop}
 use Rattle.base.specs.Bit.{bit, _⊕_}
 use Rattle.bits.specs.Packed.{bits, number, unpack, pad}
-use Rattle.bits.specs.Payload.{ones, spread, gather, frozenOne}
+use Rattle.payload.specs.Payload.{ones, spread, gather, frozenOne}
 use Rattle.bits.proofs.Packed.{length-bits, bits-mod, bits-low, bits-split, and-at, xor-at, leading-bits, number-lt, number-bits, bits-number, unpack-next, byteAt, byte-next}
-use Rattle.bits.proofs.Payload.{length-spread, length-gather, spread-append, spread-some, gather-append, frozen-is, frozen-first, frozen-second}
+use Rattle.payload.proofs.Payload.{length-spread, length-gather, spread-append, spread-some, gather-append, frozen-is, frozen-first, frozen-second}
 
 -- ---- spreading
 

@@ -1,4 +1,4 @@
--- `bits::count` meets its contract. Invariant: the count so far and the ones of the bytes that are left make the whole. Assumes nothing.
+-- `payload::count` meets its contract. Invariant: the count so far and the ones of the bytes that are left make the whole. Assumes nothing.
 use mathlib.Core.Path.{_≡_, ap}
 use Prim.Native.Nat.{_≤_, _-_, _+_}
 use native.Mathlib.Omega.{arith}
@@ -6,12 +6,12 @@ use borrow.Author.Needs.{needs}
 use lib.Count
 use lib.ListN.{length, drop, getD}
 use lib.Seq.{drop-length}
 use Rattle.bits.specs.Packed.{unpack}
-use Rattle.bits.specs.Payload.{ones}
+use Rattle.payload.specs.Payload.{ones}
 use Rattle.bits.proofs.Packed.{length-unpack}
-use Rattle.bits.proofs.Payload.{count-bits, ones-next, ones-le}
-use Rattle.bits.proofs.count.Statement.{statement}
-use Rattle.bits.proofs.count.Tie as tie
+use Rattle.payload.proofs.Payload.{count-bits, ones-next, ones-le}
+use Rattle.payload.proofs.count.Statement.{statement}
+use Rattle.payload.proofs.count.Tie as tie
 
 abbrev Inv-loop : tie.InvT-loop
 Inv-loop s n₀ i₀ n i = (i ≤ length s) × (n + ones (unpack (drop i s)) ≡ ones (unpack s))

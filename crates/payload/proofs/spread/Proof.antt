@@ -1,4 +1,4 @@
--- `bits::spread` meets its contract: the first i bytes are stored, and the rest of the symbols come from the bytes and the payload bits that are left. Assumes nothing.
+-- `payload::spread` meets its contract: the first i bytes are stored, and the rest of the symbols come from the bytes and the payload bits that are left. Assumes nothing.
 use mathlib.Core.Path.{_≡_, refl, sym, ap, _∙_}
 use mathlib.Core.Bool.{Bool}
 use mathlib.Core.List.{List}
@@ -8,14 +8,14 @@ use borrow.Author.Needs.{needs}
 use lib.ListN.{length, drop, set}
 use Rattle.base.specs.Bit.{tabulate}
 use Rattle.base.proofs.List.{filled, fill-next, fill-all}
 use Rattle.bits.specs.Packed.{bits, number, unpack}
-use Rattle.bits.specs.Payload.{ones, spread}
-use Rattle.bits.specs.Tables.{onesTable, spreadTable}
+use Rattle.payload.specs.Payload.{ones, spread}
+use Rattle.payload.specs.Tables.{onesTable, spreadTable}
 use Rattle.bits.proofs.Packed.{length-unpack, byteAt, pack-bytes, unpack-pack}
-use Rattle.bits.proofs.Payload.{ones-le, ones-next, length-spread}
-use Rattle.bits.proofs.Turns.{spread-turn}
-use Rattle.bits.proofs.spread.Statement.{statement}
-use Rattle.bits.proofs.spread.Tie as tie
+use Rattle.payload.proofs.Payload.{ones-le, ones-next, length-spread}
+use Rattle.payload.proofs.Bytes.{spread-turn}
+use Rattle.payload.proofs.spread.Statement.{statement}
+use Rattle.payload.proofs.spread.Tie as tie
 
 -- All the symbols.
 abbrev all : List ℕ → List ℕ → List Bool

@@ -1,4 +1,4 @@
--- `bits::frozen_one` meets its contract: the first i bytes have no symbol outside the mask. Assumes nothing.
+-- `payload::frozen_one` meets its contract: the first i bytes have no symbol outside the mask. Assumes nothing.
 use mathlib.Core.Path.{_≡_, ap}
 use Prim.Native.Nat.{ℕ, _+_, _-_, _*_, _^_, _≤_, _<_}
 use native.Mathlib.Nat.{lt-of-le-of-lt}
@@ -8,11 +8,11 @@ use lib.Count.{leadingZeros, leading-le}
 use lib.Dec.{lit<}
 use lib.ListN.{length, drop}
 use lib.Seq.{drop-length}
 use Rattle.bits.specs.Packed.{unpack}
-use Rattle.bits.specs.Payload.{frozenOne}
-use Rattle.bits.proofs.Turns.{frozen-none, frozen-some}
-use Rattle.bits.proofs.frozen_one.Statement.{statement}
-use Rattle.bits.proofs.frozen_one.Tie as tie
+use Rattle.payload.specs.Payload.{frozenOne}
+use Rattle.payload.proofs.Bytes.{frozen-none, frozen-some}
+use Rattle.payload.proofs.frozen_one.Statement.{statement}
+use Rattle.payload.proofs.frozen_one.Tie as tie
 
 abbrev Inv-loop : tie.InvT-loop
 Inv-loop mask symbols i₀ i =

@@ -9,11 +9,11 @@ use lib.ListN.{getD, drop}
 use lib.Pow.{pow-mono, shl-exact}
 use Rattle.base.specs.Bit.{tabulate}
 use Rattle.base.proofs.List.{tabulate-at}
 use Rattle.bits.specs.Packed.{bits, number, pad}
-use Rattle.bits.specs.Payload.{ones, spread, gather}
-use Rattle.bits.specs.Tables.{onesTable, spreadTable, gatherTable}
+use Rattle.payload.specs.Payload.{ones, spread, gather}
+use Rattle.payload.specs.Tables.{onesTable, spreadTable, gatherTable}
 use Rattle.bits.proofs.Packed.{length-bits, bits-mod, bits-split, bits-from, number-lt, number-append, pad-front, pad-whole}
-use Rattle.bits.proofs.Payload.{ones-append, ones-le, length-spread, length-gather, spread-append, spread-some, gather-append}
+use Rattle.payload.proofs.Payload.{ones-append, ones-le, length-spread, length-gather, spread-append, spread-some, gather-append}
 
 -- ---- the entries
 

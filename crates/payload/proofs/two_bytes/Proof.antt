@@ -1,12 +1,12 @@
--- `bits::two_bytes` meets its contract. Assumes nothing.
+-- `payload::two_bytes` meets its contract. Assumes nothing.
 use mathlib.Core.Path.{_≡_, refl}
 use Prim.Native.Nat.{_+_}
 use native.Mathlib.Omega.{arith}
 use borrow.Author.Needs.{needs}
 use lib.ListN.{getD, List·getD-eq-default}
 use Rattle.bits.proofs.Packed.{two-bytes-from}
-use Rattle.bits.proofs.two_bytes.Statement.{statement}
-use Rattle.bits.proofs.two_bytes.Tie as tie
+use Rattle.payload.proofs.two_bytes.Statement.{statement}
+use Rattle.payload.proofs.two_bytes.Tie as tie
 
 add-if1 : tie.Need-add-if1
 add-if1 c = search needs

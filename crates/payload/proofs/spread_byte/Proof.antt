@@ -1,15 +1,15 @@
--- `bits::spread_byte` meets its contract. Assumes nothing.
+-- `payload::spread_byte` meets its contract. Assumes nothing.
 use mathlib.Core.Path.{_≡_}
 use mathlib.Core.List.{[]}
 use Prim.Native.Nat.{_+_, _-_, _*_, _/_, _%_, _^_}
 use native.Mathlib.Omega.{arith}
 use borrow.Author.Needs.{needs}
 use lib.ListN.{getD}
 use Rattle.bits.specs.Packed.{bits, number}
-use Rattle.bits.specs.Payload.{spread}
-use Rattle.bits.proofs.Tables.{ones-four, spread-lt, spread-made}
-use Rattle.bits.proofs.spread_byte.Statement.{statement}
-use Rattle.bits.proofs.spread_byte.Tie as tie
+use Rattle.payload.specs.Payload.{spread}
+use Rattle.payload.proofs.Tables.{ones-four, spread-lt, spread-made}
+use Rattle.payload.proofs.spread_byte.Statement.{statement}
+use Rattle.payload.proofs.spread_byte.Tie as tie
 
 cast-h : tie.Need-cast-h
 cast-h c = search needs

@@ -1,14 +1,14 @@
--- `bits::next_byte` meets its contract. Assumes nothing.
+-- `payload::next_byte` meets its contract. Assumes nothing.
 use mathlib.Core.Path.{_≡_, ap, _∙_}
 use Prim.Native.Nat.{_+_, _*_, _/_, _%_}
 use native.Mathlib.Omega.{arith}
 use borrow.Author.Needs.{needs}
 use lib.ListN.{drop}
 use lib.Seq.{drop-drop}
 use Rattle.bits.specs.Packed.{unpack, pad}
 use Rattle.bits.proofs.Packed.{bits-from}
-use Rattle.bits.proofs.next_byte.Statement.{statement}
-use Rattle.bits.proofs.next_byte.Tie as tie
+use Rattle.payload.proofs.next_byte.Statement.{statement}
+use Rattle.payload.proofs.next_byte.Tie as tie
 
 two-bytes-requires : tie.Need-two-bytes-requires
 two-bytes-requires c κs = search needs
