@@ -11,6 +11,11 @@ abbrev pub _⊕_ : Bool → Bool → Bool
 true ⊕ b = not b
 false ⊕ b = b
 
+-- A bit as a number: 1 where it is set, else 0.
+abbrev pub digit : Bool → ℕ
+digit false = 0
+digit true = 1
+
 -- Whether a number is odd.
 abbrev pub odd : ℕ → Bool
 odd x = eqb (x % 2) 1

@@ -13,9 +13,9 @@ use lib.Dec.{eqb, lit<}
 use lib.ListN.{length, getD, set, take, drop, replicate, length-append, replicate-append-replicate, List·getD-append}
 use lib.Pow.{pow-pos, pow-mono, pow-lt, pow-add, high, mod-pow-add, mod-mod-pow, field, shl-exact, shr-lt, shr-mono}
 use lib.Seq.{getD-append-add, set-append-left, set-at, drop-at, drop-nil, drop-cons, drop-drop, drop-append-add}
-use Rattle.base.specs.Bit.{bit, _⊕_, odd, tabulate}
+use Rattle.base.specs.Bit.{bit, _⊕_, odd, tabulate, digit}
 use Rattle.base.proofs.List.{tabulate-cong}
-use Rattle.bits.specs.Packed.{bits, digit, number, unpack, pad, pack}
+use Rattle.bits.specs.Packed.{bits, number, unpack, pad, pack}
 
 -- ---- the bits of a number
 

@@ -1,19 +1,14 @@
 -- Packed bits: the lowest index stands in the most significant bit, eight bits to a byte. Assumes nothing.
-use mathlib.Core.Bool.{Bool, true, false}
+use mathlib.Core.Bool.{Bool, false}
 use mathlib.Core.List.{List, [], _∷_, _++_}
 use Prim.Native.Nat.{ℕ, zero, suc, _+_, _*_, _/_, _^_}
 use lib.ListN.{length, drop}
-use Rattle.base.specs.Bit.{odd}
+use Rattle.base.specs.Bit.{odd, digit}
 
 -- The n bits of x, the most significant first: bits 8 of a byte, bits 16 of a kernel's sixteen.
 unfoldable pub bits : ℕ → ℕ → List Bool
 bits zero x = []
 bits (suc n) x = odd (x / 2 ^ n) ∷ bits n x
-
--- A bit as a number.
-abbrev pub digit : Bool → ℕ
-digit false = 0
-digit true = 1
 
 -- The number that bits make, the most significant first.
 unfoldable pub number : List Bool → ℕ

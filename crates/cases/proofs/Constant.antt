@@ -1,4 +1,4 @@
--- Kernel follow where all sixteen values are 0 or all are 1: the scores are 0, or the profile. Assumes nothing.
+-- Kernel follow where all sixteen values are 0 or all are 1: the scores are 0, or the partial distances. Assumes nothing.
 use mathlib.Core.Path.{_≡_, refl, sym, ap, _∙_}
 use mathlib.Core.Bool.{true, false, not}
 use mathlib.Core.List.{List, _++_}
@@ -12,13 +12,13 @@ use Rattle.bits.proofs.Packed.{length-bits}
 use Rattle.answer.specs.Verdict.{done, isAccepted, settle}
 use Rattle.answer.proofs.Settle.{settle-none}
 use Rattle.polar.specs.Code.{channel}
-use Rattle.polar.specs.Profile.{profile}
-use Rattle.polar.proofs.Profile.{scores-profile, scores-zero}
+use Rattle.polar.specs.Distance.{partialDistance}
+use Rattle.polar.proofs.Distance.{scores-distance, scores-zero}
 use Rattle.folds.specs.Range.{firstOutside}
 use Rattle.kernel.specs.Kernels.{kernelCode}
 use Rattle.kernel.specs.Jobs.{isKernel}
 use Rattle.kernel.proofs.Checks.{kernel-below}
-use Rattle.kernel.proofs.Profiles.{kernel-zero}
+use Rattle.kernel.proofs.Distances.{kernel-zero}
 use Rattle.follow.specs.Jobs.{followChecks, kernelFollow}
 use Rattle.follow.proofs.Accepted.{accepted-job}
 
@@ -43,11 +43,11 @@ module _ (k : ℕ) (out : List ℤ) (lk : k < 3) (room : 16 ≤ length out) wher
       accepted-job k values symbols out zeros-accepted (channel values) (λ j b l. refl) (replicate 16 (pos 0)) (replicate 16 (pos 0) ++ drop 16 out)
       (sym (scores-zero (kernelCode k) 16 (bits 16 symbols) ∙ ap (λ n. replicate n (pos 0)) (length-bits 16 symbols))) refl
 
-  -- All values 1, symbols 0: the profile numbers of the sixteen rows.
-  pub all-one : kernelFollow k (replicate 16 (pos 1)) 0 out ≡ (done, tabulate 16 (λ s. pos (profile (kernelCode k) s)) ++ drop 16 out)
+  -- All values 1, symbols 0: the partial distances of the sixteen rows.
+  pub all-one : kernelFollow k (replicate 16 (pos 1)) 0 out ≡ (done, tabulate 16 (λ s. pos (partialDistance (kernelCode k) s)) ++ drop 16 out)
   unfolding bits
   all-one =
       let values = replicate 16 (pos 1) in
-      let found = tabulate 16 (λ s. pos (profile (kernelCode k) s)) in
+      let found = tabulate 16 (λ s. pos (partialDistance (kernelCode k) s)) in
       accepted-job k values 0 out ones-accepted (channel values) (λ j b l. refl) found (found ++ drop 16 out)
-      (sym (scores-profile (kernelCode k) (kernel-zero k))) refl
+      (sym (scores-distance (kernelCode k) (kernel-zero k))) refl

@@ -20,7 +20,7 @@ use Rattle.polar.specs.Fold.{folded, blocks}
 use Rattle.folds.specs.Range.{firstOutside}
 use Rattle.folds.specs.Rows.{leastTo}
 use Rattle.kernel.specs.Rows.{chosenSum, rowSum, table}
-use Rattle.kernel.specs.Jobs.{isKernel, encoded}
+use Rattle.kernel.specs.Jobs.{isKernel, encodedWord}
 use Rattle.kernel.proofs.Table.{encoded-rows}
 use Rattle.kernel.proofs.Checks.{kernel-lt, kernel-passed}
 use Rattle.order.specs.Order.{order, among, informationBits, markedPhases}
@@ -83,7 +83,7 @@ unfolding test
 shown (encoding k s w) t =
     let h = (and-eq-true-iff (isKernel k) _) .0 t in
     let u : ℕ = number (unit 16 s) in
-    sym (kernel-passed k (word (encoded k u)) (h .0))
+    sym (kernel-passed k (word (encodedWord k u)) (h .0))
     ∙ ap word (sym (encoded-rows k u (kernel-lt k (h .0))) ∙ eqb-true (rowSum (getD table k []) u) w (h .1))
 shown (following k value scores) t =
     let values = replicate 16 value in

@@ -10,7 +10,7 @@ use Rattle.bits.specs.Packed.{number, unpack}
 use Rattle.answer.specs.Verdict.{word, done}
 use Rattle.polar.specs.Relation.{unit}
 use Rattle.kernel.specs.Jobs.{kernelEncode}
-use Rattle.kernel.specs.Profiles.{profileTable}
+use Rattle.kernel.specs.Distances.{distanceTable}
 use Rattle.order.specs.Order.{markedPhases}
 use Rattle.order.specs.Jobs.{informationMask}
 use Rattle.follow.specs.Jobs.{kernelFollow}
@@ -38,7 +38,7 @@ Holds (quantising m e value) =
     let x = fin false m e in
     (fits binary32 x ≡ true) × (valuesFromMarks (replicate 256 x) (replicate 16 0) (replicate 256 (pos 0)) ≡ (done, replicate 256 value))
 
--- The table. Where all values are 1, the scores are the profile numbers. The amplitudes are 1.0, 0.015625 and 0.046875.
+-- The table. Where all values are 1, the scores are the partial distances. The amplitudes are 1.0, 0.015625 and 0.046875.
 abbrev pub starred : List Case
 starred =
     encoding 1 9 0xa6c0
@@ -46,9 +46,9 @@ starred =
     ∷ encoding 1 10 0x6ca0
     ∷ encoding 1 5 0xc0c0
     ∷ encoding 0 5 0xcc00
-    ∷ following 0 (pos 1) (map pos (profileTable 0))
-    ∷ following 1 (pos 1) (map pos (profileTable 1))
-    ∷ following 2 (pos 1) (map pos (profileTable 2))
+    ∷ following 0 (pos 1) (map pos (distanceTable 0))
+    ∷ following 1 (pos 1) (map pos (distanceTable 1))
+    ∷ following 2 (pos 1) (map pos (distanceTable 2))
     ∷ following 0 (pos 0) (replicate 16 (pos 0))
     ∷ following 1 (pos 0) (replicate 16 (pos 0))
     ∷ following 2 (pos 0) (replicate 16 (pos 0))

@@ -6,11 +6,11 @@ use Prim.Native.Nat.{ℕ, _+_, _-_, _*_, _≤_, _<_}
 use native.Mathlib.Omega.{arith}
 use lib.IntN.{ℤ, pos, negℤ, _-ℤ_}
 use lib.ListN.{length, getD, length-append}
-use Rattle.polar.specs.Code.{Code, Costs, pay, channel, sum, total, lowest, least, score}
+use Rattle.polar.specs.Code.{Code, Costs, pay, channel, sum, total, minimum, least, score}
 use Rattle.polar.specs.Kernel.{code}
 use Rattle.polar.specs.Frame.{frame}
 use Rattle.polar.specs.Stages.{rows, column, staged, block, pairs, soft}
-use Rattle.polar.proofs.Lowest.{sum-cong, lowest-cong}
+use Rattle.polar.proofs.Minima.{sum-cong, minimum-cong}
 use Rattle.polar.proofs.Least.{least-cong}
 use Rattle.polar.proofs.Matrix.{kernel-onto}
 use Rattle.polar.proofs.Values.{values, value-pairs, penalty-values}
@@ -25,7 +25,7 @@ use Rattle.layers.proofs.Going.{score-cong}
 -- A kernel as a matrix and by its relations has the same leasts,
 pub code-least : (k : ℕ) (m : Costs) (p : List Bool) → length p ≤ 16 → least (code (kernel k)) m p ≡ least (kernelCode k) m p
 unfolding least total
-code-least k m p l = lowest-cong (16 - length p) (λ t e. sum-cong 16 (λ i _. ap (m i) (code-word k (p ++ t) (length-append p t ∙ omega arith) i)))
+code-least k m p l = minimum-cong (16 - length p) (λ t e. sum-cong 16 (λ i _. ap (m i) (code-word k (p ++ t) (length-append p t ∙ omega arith) i)))
 
 -- and the same scores.
 pub code-score : (k : ℕ) (m : Costs) (p : List Bool) → length p < 16 → score (code (kernel k)) m p ≡ score (kernelCode k) m p

@@ -9,9 +9,9 @@ use native.Mathlib.Omega.{arith}
 use lib.IntN.{ℤ, pos}
 use lib.ListN.{length, getD, take, drop, set, replicate, length-set, length-append, List·getD-append}
 use lib.Seq.{paste, take-suc, take-all, take-at, take-append-le, take-append-add, take-append-seam, drop-at, drop-drop, drop-append-le, drop-append-add, getD-append-add, length-take-le, ext-getD}
-use Rattle.base.specs.Bit.{bit, tabulate}
+use Rattle.base.specs.Bit.{bit, tabulate, digit}
 use Rattle.base.proofs.List.{length-tabulate, tabulate-at, tabulate-cong, tabulate-append}
-use Rattle.bits.specs.Packed.{bits, digit}
+use Rattle.bits.specs.Packed.{bits}
 use Rattle.bits.proofs.Packed.{length-bits, zero-at}
 use Rattle.polar.specs.Code.{Code, Costs, channel, least, score}
 use Rattle.polar.specs.Follow.{scores, penalties}

@@ -7,7 +7,7 @@ use native.Mathlib.Decide.{decLt}
 use native.Mathlib.Omega.{arith}
 use lib.ListN.{length, getD, set, replicate, length-set, length-replicate}
 use lib.Seq.{getD-set-same, getD-set-other}
-use Rattle.bits.specs.Packed.{digit}
+use Rattle.base.specs.Bit.{digit}
 use Rattle.polar.specs.Code.{Costs}
 use Rattle.folds.specs.Rows.{cell, costsOf, Within}
 

@@ -16,7 +16,7 @@ use lib.Signed.{ltZ, _≤ℤ_, leZ-yes, ltZ-yes, ltZ-no, ≤ℤ-refl, <ℤ-≤�
 use Rattle.base.specs.Bit.{odd}
 use Rattle.bits.specs.Packed.{bits}
 use Rattle.bits.proofs.Packed.{bits-mod}
-use Rattle.polar.specs.Code.{lowest}
+use Rattle.polar.specs.Code.{minimum}
 use Rattle.folds.specs.Rows.{IsGreatest, leastTo}
 
 -- ---- the least of some numbers
@@ -68,14 +68,14 @@ bits-above k j l =
     (sym (bits-mod k (1 * 2 ^ k + j)) ∙ ap (bits k) (mul-add-mod-self-right 1 (2 ^ k) j) ∙ bits-mod k j)
 
 -- The least over all lists of d bits is the least over the numbers below 2 ^ d, by their bits.
-pub lowest-index : (d : ℕ) (f : List Bool → ℕ) → lowest d f ≡ leastTo (λ w. f (bits d w)) (2 ^ d - 1)
-unfolding lowest leastTo bits
+pub lowest-index : (d : ℕ) (f : List Bool → ℕ) → minimum d f ≡ leastTo (λ w. f (bits d w)) (2 ^ d - 1)
+unfolding minimum leastTo bits
 lowest-index zero f = refl
 lowest-index (suc k) f = go (2 ^ k - 1) (omega (arith, pow-pos k)) (lowest-index k (λ t. f (false ∷ t))) (lowest-index k (λ t. f (true ∷ t)))
   where
-    go : (a : ℕ) → suc a ≡ 2 ^ k → lowest k (λ t. f (false ∷ t)) ≡ leastTo (λ w. f (false ∷ bits k w)) (2 ^ k - 1)
-        → lowest k (λ t. f (true ∷ t)) ≡ leastTo (λ w. f (true ∷ bits k w)) (2 ^ k - 1)
-        → min (lowest k (λ t. f (false ∷ t))) (lowest k (λ t. f (true ∷ t))) ≡ leastTo (λ w. f (bits (suc k) w)) (2 ^ suc k - 1)
+    go : (a : ℕ) → suc a ≡ 2 ^ k → minimum k (λ t. f (false ∷ t)) ≡ leastTo (λ w. f (false ∷ bits k w)) (2 ^ k - 1)
+        → minimum k (λ t. f (true ∷ t)) ≡ leastTo (λ w. f (true ∷ bits k w)) (2 ^ k - 1)
+        → min (minimum k (λ t. f (false ∷ t))) (minimum k (λ t. f (true ∷ t))) ≡ leastTo (λ w. f (bits (suc k) w)) (2 ^ suc k - 1)
     go a e p q =
         let m : 2 ^ k - 1 ≡ a = omega arith in
         let n : 2 ^ suc k - 1 ≡ suc (a + a) = omega (arith, two-pow-succ k) in

@@ -6,7 +6,7 @@ use Prim.Native.Nat.{ℕ, zero, suc, _≤_, _<_, min}
 use lib.ListN.{getD}
 use lib.IntN.{ℤ, pos}
 use lib.Signed.{_≤ℤ_}
-use Rattle.bits.specs.Packed.{digit}
+use Rattle.base.specs.Bit.{digit}
 use Rattle.polar.specs.Code.{Costs}
 
 -- Entry j of the row of bit b, o past the end.

@@ -18,7 +18,7 @@ use Rattle.mask.specs.Mask.{marked, badMask, payloadBytes}
 use Rattle.mask.proofs.Mask.{bytes-marked, bytes-eighth}
 use Rattle.kernel.proofs.Checks.{pair-lt}
 use Rattle.frame.specs.Frames.{frameCode}
-use Rattle.frame.specs.Jobs.{encodeChecks, encoded, frameEncode, requestChecks, symbolsOf, frozenOf, undoChecks, undone, frameUndo}
+use Rattle.frame.specs.Jobs.{encodeChecks, encodedFrame, frameEncode, requestChecks, frameSymbols, frozenOf, undoChecks, undonePayload, frameUndo}
 
 -- ---- frame encode
 
@@ -56,16 +56,16 @@ pub encode-refused : (a b : ℕ) (mask payload out : List ℕ) (v : Verdict) →
     → isAccepted v ≡ false → frameEncode a b mask payload out ≡ (v, out)
 unfolding frameEncode
 encode-refused a b mask payload out v e r =
-    ap (λ (x : Verdict). (x, after x out (encoded a b mask payload))) (sym e) ∙ ap (λ (l : List ℕ). (v, l)) (after-refused v out (encoded a b mask payload) r)
+    ap (λ (x : Verdict). (x, after x out (encodedFrame a b mask payload))) (sym e) ∙ ap (λ (l : List ℕ). (v, l)) (after-refused v out (encodedFrame a b mask payload) r)
 
 -- An accepted job leaves the word and what lies past it.
 pub encode-done : (a b : ℕ) (mask payload out last : List ℕ) → isAccepted (settle (encodeChecks a b mask (length payload) (length out)) done) ≡ true
     → (c : List Bool) → c ≡ tabulate 256 ((frameCode a b) .word (spread (unpack mask) (unpack payload))) → last ≡ pack 32 c ++ drop 32 out
     → frameEncode a b mask payload out ≡ (done, last)
-unfolding frameEncode encoded
+unfolding frameEncode encodedFrame
 encode-done a b mask payload out last ok c e l =
     let cs = encodeChecks a b mask (length payload) (length out) in
-    let new = encoded a b mask payload in
+    let new = encodedFrame a b mask payload in
     ap (λ (x : Verdict). (x, after x out new)) (settle-none cs done (none-of cs done ok))
     ∙ ap (λ (l : List ℕ). (done, l)) (ap (λ n. new ++ drop n out) (length-pack 32 _) ∙ ap (λ u. pack 32 u ++ drop 32 out) (sym e) ∙ sym l)
 
@@ -114,10 +114,10 @@ module _ (a b : ℕ) (mask word out : List ℕ) where
   undo-refused v e r =
       let all : settle (undoChecks a b mask word (length out)) done ≡ v =
       settle-append request (last-check ∷ []) done ∙ settle-stopped request done (settle (last-check ∷ []) done) refl (ap isAccepted (sym e) ∙ r) ∙ sym e in
-      ap (λ (x : Verdict). (x, after x out (undone a b mask word))) all ∙ ap (λ (l : List ℕ). (v, l)) (after-refused v out (undone a b mask word) r)
+      ap (λ (x : Verdict). (x, after x out (undonePayload a b mask word))) all ∙ ap (λ (l : List ℕ). (v, l)) (after-refused v out (undonePayload a b mask word) r)
 
   module _ (ok : isAccepted (settle (requestChecks a b mask (length word) (length out)) done) ≡ true)
-      (u : List Bool) (is-u : u ≡ symbolsOf a b word) (phase : ℕ) (is-phase : phase ≡ frozenOne (unpack mask) u) where
+      (u : List Bool) (is-u : u ≡ frameSymbols a b word) (phase : ℕ) (is-phase : phase ≡ frozenOne (unpack mask) u) where
     place-is : frozenOf a b mask word ≡ phase
     unfolding frozenOf
     place-is = ap (frozenOne (unpack mask)) (sym is-u) ∙ sym is-phase
@@ -133,15 +133,15 @@ module _ (a b : ℕ) (mask word out : List ℕ) where
     -- A symbol 1 at an unmarked phase is refused, and the buffer left.
     pub undo-frozen : phase < 256 → frameUndo a b mask word out ≡ (refused 9 phase, out)
     unfolding frameUndo
-    undo-frozen l = ap (λ (x : Verdict). (x, after x out (undone a b mask word))) (verdict-is true (lt-ltb phase 256 l))
+    undo-frozen l = ap (λ (x : Verdict). (x, after x out (undonePayload a b mask word))) (verdict-is true (lt-ltb phase 256 l))
 
     -- Any other word leaves its payload and what lies past it.
     pub undo-done : 256 ≤ phase → (last : List ℕ)
         → last ≡ pack (ones (unpack mask) / 8) (gather (unpack mask) u) ++ drop (ones (unpack mask) / 8) out → frameUndo a b mask word out ≡ (done, last)
-    unfolding frameUndo undone marked
+    unfolding frameUndo undonePayload marked
     undo-done l last e =
-        ap (λ (x : Verdict). (x, after x out (undone a b mask word))) (verdict-is false (le-ltb phase 256 l))
+        ap (λ (x : Verdict). (x, after x out (undonePayload a b mask word))) (verdict-is false (le-ltb phase 256 l))
         ∙ ap (λ (l : List ℕ). (done, l))
-        (ap (λ n. undone a b mask word ++ drop n out) (length-pack (ones (unpack mask) / 8) _)
+        (ap (λ n. undonePayload a b mask word ++ drop n out) (length-pack (ones (unpack mask) / 8) _)
         ∙ ap (λ v. pack (ones (unpack mask) / 8) (gather (unpack mask) v) ++ drop (ones (unpack mask) / 8) out) (sym is-u)
         ∙ sym e)

@@ -23,7 +23,7 @@ use Rattle.polar.specs.Code.{symbolsIn}
 use Rattle.polar.proofs.Undo.{length-symbols-in, symbols-of-word, word-of-symbols}
 use Rattle.kernel.specs.Jobs.{isPair}
 use Rattle.frame.specs.Frames.{frameCode}
-use Rattle.frame.specs.Jobs.{encodeChecks, encoded, frameEncode, symbolsOf, frozenOf, requestChecks, undoChecks, undone, frameUndo}
+use Rattle.frame.specs.Jobs.{encodeChecks, encodedFrame, frameEncode, frameSymbols, frozenOf, requestChecks, undoChecks, undonePayload, frameUndo}
 use Rattle.frame.proofs.Words.{unframe, undoes, redoes}
 
 -- Numbers that are bytes.
@@ -37,26 +37,26 @@ module _ (a b : ℕ) (mask : List ℕ) (n : length mask ≡ 32) where
   bits-long = length-unpack mask ∙ ap (λ k. 8 * k) n
 
   -- The symbols of the word of a payload are those that it was made from,
-  pub symbols-encoded : (payload : List ℕ) → symbolsOf a b (encoded a b mask payload) ≡ spread (unpack mask) (unpack payload)
-  unfolding symbolsOf encoded
+  pub symbols-encoded : (payload : List ℕ) → frameSymbols a b (encodedFrame a b mask payload) ≡ spread (unpack mask) (unpack payload)
+  unfolding frameSymbols encodedFrame
   symbols-encoded payload =
       let u = spread (unpack mask) (unpack payload) in
       ap (symbolsIn (frameCode a b)) (unpack-pack 32 (tabulate 256 ((frameCode a b) .word u)) (length-tabulate 256 _))
       ∙ symbols-of-word (frameCode a b) (unframe a b) (undoes a b) (redoes a b) u (length-spread (unpack mask) (unpack payload) ∙ bits-long)
 
   -- and none is 1 at an unmarked phase.
-  pub frozen-encoded : (payload : List ℕ) → frozenOf a b mask (encoded a b mask payload) ≡ 256
+  pub frozen-encoded : (payload : List ℕ) → frozenOf a b mask (encodedFrame a b mask payload) ≡ 256
   unfolding frozenOf
   frozen-encoded payload = ap (frozenOne (unpack mask)) (symbols-encoded payload) ∙ frozen-spread (unpack mask) (unpack payload) ∙ bits-long
 
-  pub length-symbols : (word : List ℕ) → length (symbolsOf a b word) ≡ 256
-  unfolding symbolsOf
+  pub length-symbols : (word : List ℕ) → length (frameSymbols a b word) ≡ 256
+  unfolding frameSymbols
   length-symbols word = length-symbols-in (frameCode a b) (unpack word)
 
   -- Either some phase is named, or none.
   pub frozen-none : (word : List ℕ) → ltb (frozenOf a b mask word) 256 ≡ false → frozenOf a b mask word ≡ 256
   unfolding frozenOf
-  frozen-none word f = omega (arith, ltb-false (frozenOne (unpack mask) (symbolsOf a b word)) 256 f, frozen-le (unpack mask) (symbolsOf a b word), bits-long)
+  frozen-none word f = omega (arith, ltb-false (frozenOne (unpack mask) (frameSymbols a b word)) 256 f, frozen-le (unpack mask) (frameSymbols a b word), bits-long)
 
   module _ (good : badMask mask ≡ false) where
     -- A payload has eight bits for each byte.
@@ -64,19 +64,19 @@ module _ (a b : ℕ) (mask : List ℕ) (n : length mask ≡ 32) where
     fills = sym (bytes-marked mask n good) ∙ ap (λ k. 8 * k) (bytes-eighth mask n good)
 
     -- Undo gives back the payload of every word that encode makes.
-    pub undone-encoded : (payload : List ℕ) → Bytes payload → length payload ≡ marked mask / 8 → undone a b mask (encoded a b mask payload) ≡ payload
-    unfolding undone
+    pub undone-encoded : (payload : List ℕ) → Bytes payload → length payload ≡ marked mask / 8 → undonePayload a b mask (encodedFrame a b mask payload) ≡ payload
+    unfolding undonePayload
     undone-encoded payload h e =
         ap (λ u. pack (marked mask / 8) (gather (unpack mask) u)) (symbols-encoded payload)
         ∙ ap (pack (marked mask / 8)) (gather-spread (unpack mask) (unpack payload) (fills ∙ ap (λ k. 8 * k) (sym e) ∙ sym (length-unpack payload)))
         ∙ packed payload (marked mask / 8) (unpack payload) e h refl
 
     -- Encode gives back every word whose symbols have no 1 at an unmarked phase.
-    pub encoded-undone : (word : List ℕ) → Bytes word → length word ≡ 32 → frozenOf a b mask word ≡ 256 → encoded a b mask (undone a b mask word) ≡ word
-    unfolding encoded undone frozenOf symbolsOf
+    pub encoded-undone : (word : List ℕ) → Bytes word → length word ≡ 32 → frozenOf a b mask word ≡ 256 → encodedFrame a b mask (undonePayload a b mask word) ≡ word
+    unfolding encodedFrame undonePayload frozenOf frameSymbols
     encoded-undone word h e f =
         let m = unpack mask in
-        let u = symbolsOf a b word in
+        let u = frameSymbols a b word in
         let C = frameCode a b in
         ap (λ p. pack 32 (tabulate 256 (C .word (spread m p)))) (unpack-pack (marked mask / 8) (gather m u) (length-gather m u ∙ fills))
         ∙ ap (λ u. pack 32 (tabulate 256 (C .word u))) (spread-gather m u (length-symbols word ∙ sym bits-long) (f ∙ sym bits-long))
@@ -85,34 +85,34 @@ module _ (a b : ℕ) (mask : List ℕ) (n : length mask ≡ 32) where
 
     -- Two different payloads never give one word.
     pub one-payload : (p q : List ℕ) → Bytes p → Bytes q → length p ≡ marked mask / 8 → length q ≡ marked mask / 8
-        → encoded a b mask p ≡ encoded a b mask q → p ≡ q
-    one-payload p q hp hq ep eq e = sym (undone-encoded p hp ep) ∙ ap (undone a b mask) e ∙ undone-encoded q hq eq
+        → encodedFrame a b mask p ≡ encodedFrame a b mask q → p ≡ q
+    one-payload p q hp hq ep eq e = sym (undone-encoded p hp ep) ∙ ap (undonePayload a b mask) e ∙ undone-encoded q hq eq
 
 -- Their lengths.
-pub length-encoded : (a b : ℕ) (mask payload : List ℕ) → length (encoded a b mask payload) ≡ 32
-unfolding encoded
+pub length-encoded : (a b : ℕ) (mask payload : List ℕ) → length (encodedFrame a b mask payload) ≡ 32
+unfolding encodedFrame
 length-encoded a b mask payload = length-pack 32 _
 
-pub length-undone : (a b : ℕ) (mask word : List ℕ) → length (undone a b mask word) ≡ marked mask / 8
-unfolding undone
+pub length-undone : (a b : ℕ) (mask word : List ℕ) → length (undonePayload a b mask word) ≡ marked mask / 8
+unfolding undonePayload
 length-undone a b mask word = length-pack (marked mask / 8) _
 
 -- ---- the jobs
 
 -- What the two jobs leave where no check holds.
 encode-leaves : (a b : ℕ) (mask payload out : List ℕ) → None (encodeChecks a b mask (length payload) (length out))
-    → frameEncode a b mask payload out ≡ (done, encoded a b mask payload ++ drop 32 out)
-unfolding frameEncode encoded
+    → frameEncode a b mask payload out ≡ (done, encodedFrame a b mask payload ++ drop 32 out)
+unfolding frameEncode encodedFrame
 encode-leaves a b mask payload out n =
-    ap (λ (v : Verdict). (v, after v out (encoded a b mask payload))) (settle-none (encodeChecks a b mask (length payload) (length out)) done n)
-    ∙ ap (λ k. (done, encoded a b mask payload ++ drop k out)) (length-pack 32 _)
+    ap (λ (v : Verdict). (v, after v out (encodedFrame a b mask payload))) (settle-none (encodeChecks a b mask (length payload) (length out)) done n)
+    ∙ ap (λ k. (done, encodedFrame a b mask payload ++ drop k out)) (length-pack 32 _)
 
 undo-leaves : (a b : ℕ) (mask word out : List ℕ) → None (undoChecks a b mask word (length out))
-    → frameUndo a b mask word out ≡ (done, undone a b mask word ++ drop (marked mask / 8) out)
-unfolding frameUndo undone
+    → frameUndo a b mask word out ≡ (done, undonePayload a b mask word ++ drop (marked mask / 8) out)
+unfolding frameUndo undonePayload
 undo-leaves a b mask word out n =
-    ap (λ (v : Verdict). (v, after v out (undone a b mask word))) (settle-none (undoChecks a b mask word (length out)) done n)
-    ∙ ap (λ k. (done, undone a b mask word ++ drop k out)) (length-pack (marked mask / 8) _)
+    ap (λ (v : Verdict). (v, after v out (undonePayload a b mask word))) (settle-none (undoChecks a b mask word (length out)) done n)
+    ∙ ap (λ k. (done, undonePayload a b mask word ++ drop k out)) (length-pack (marked mask / 8) _)
 
 must : (b : Bool) → (b ≡ false → ⊥) → b ≡ true
 must true n = refl
@@ -131,7 +131,7 @@ module _ (a b : ℕ) (mask : List ℕ) where
       let e = eqb-true (length mask) 32 (not-false _ (n .1 .0)) in
       let g = n .1 .1 .0 in
       let s = eqb-true (length payload) (marked mask / 8) (not-false _ (n .1 .1 .1 .0)) in
-      let w = encoded a b mask payload in
+      let w = encodedFrame a b mask payload in
       let lw = length-encoded a b mask payload in
       ap (λ (r : Verdict × List ℕ). frameUndo a b mask (take 32 (r .1)) out′) (encode-leaves a b mask payload out n)
       ∙ ap (λ x. frameUndo a b mask x out′) (take-at w (drop 32 out) 32 lw)
@@ -149,7 +149,7 @@ module _ (a b : ℕ) (mask : List ℕ) where
       let e = eqb-true (length mask) 32 (not-false _ (d .0)) in
       let l = eqb-true (length word) 32 (not-false _ (d .1)) in
       let g = n .1 .1 .0 in
-      let p = undone a b mask word in
+      let p = undonePayload a b mask word in
       let lp = length-undone a b mask word in
       ap (λ (r : Verdict × List ℕ). frameEncode a b mask (take (marked mask / 8) (r .1)) out′) (undo-leaves a b mask word out n)
       ∙ ap (λ x. frameEncode a b mask x out′) (take-at p (drop (marked mask / 8) out) (marked mask / 8) lp)
@@ -159,15 +159,15 @@ module _ (a b : ℕ) (mask : List ℕ) where
 
   -- A word of no payload is refused by condition 9, where the request passes the other checks.
   pub undo-refuses : (word out : List ℕ) → Bytes word → None (requestChecks a b mask (length word) (length out))
-      → ((payload : List ℕ) → Bytes payload → length payload ≡ marked mask / 8 → encoded a b mask payload ≡ word → ⊥)
+      → ((payload : List ℕ) → Bytes payload → length payload ≡ marked mask / 8 → encodedFrame a b mask payload ≡ word → ⊥)
       → (frameUndo a b mask word out) .0 ≡ refused 9 (frozenOf a b mask word)
-  unfolding frameUndo requestChecks undoChecks undone
+  unfolding frameUndo requestChecks undoChecks undonePayload
   undo-refuses word out h n none =
       let d = or-eq-false _ _ (n .1 .0) in
       let e = eqb-true (length mask) 32 (not-false _ (d .0)) in
       let l = eqb-true (length word) 32 (not-false _ (d .1)) in
       let g = n .1 .1 .0 in
-      let p = undone a b mask word in
+      let p = undonePayload a b mask word in
       let f : ltb (frozenOf a b mask word) 256 ≡ true = must (ltb (frozenOf a b mask word) 256) (λ z.
       none p (λ i _. pack-lt (marked mask / 8) _ i) (length-undone a b mask word) (encoded-undone a b mask e g word h l (frozen-none a b mask e word z))) in
       rw (n .0, n .1 .0, g, n .1 .1 .1 .0, f) refl

@@ -20,7 +20,7 @@ use Rattle.kernel.proofs.Table.{table-row, inverse-row}
 use Rattle.grid.specs.Grid.{kernelOf, rowsBits}
 use Rattle.grid.proofs.Grid.{length-rows-bits}
 use Rattle.frame.specs.Frames.{frameCode}
-use Rattle.frame.specs.Jobs.{symbolsOf}
+use Rattle.frame.specs.Jobs.{frameSymbols}
 
 module _ (a b : ℕ) where
   -- The code that undoes the frame's,
@@ -58,8 +58,8 @@ module _ (a b : ℕ) (la : a < 3) (lb : b < 3) (A B rows made : List ℕ)
 
   -- What the inverse tables make of the rows of a word, stored in 32 bytes, are its symbols.
   pub symbols-made : (word stored : List ℕ) → A ≡ getD inverseTable b [] → B ≡ getD inverseTable a [] → length word ≡ 32 → rowsBits rows ≡ unpack word
-      → stored ≡ pack 32 (rowsBits made) ++ [] → unpack stored ≡ symbolsOf a b word
-  unfolding symbolsOf
+      → stored ≡ pack 32 (rowsBits made) ++ [] → unpack stored ≡ frameSymbols a b word
+  unfolding frameSymbols
   symbols-made word stored eb ea n er es =
       ap unpack (es ∙ append-nil (pack 32 (rowsBits made)))
       ∙ unpack-pack 32 (rowsBits made) (length-rows-bits made)

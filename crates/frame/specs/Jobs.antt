@@ -25,22 +25,22 @@ encodeChecks a b mask sent room =
     ∷ []
 
 -- The 32 bytes of the word of a payload: its bits fill the marked phases in rising order, all others are 0.
-unfoldable pub encoded : ℕ → ℕ → List ℕ → List ℕ → List ℕ
-encoded a b mask payload = pack 32 (tabulate 256 ((frameCode a b) .word (spread (unpack mask) (unpack payload))))
+unfoldable pub encodedFrame : ℕ → ℕ → List ℕ → List ℕ → List ℕ
+encodedFrame a b mask payload = pack 32 (tabulate 256 ((frameCode a b) .word (spread (unpack mask) (unpack payload))))
 
 -- Frame encode: pair, mask and payload to the word.
 unfoldable pub frameEncode : ℕ → ℕ → List ℕ → List ℕ → List ℕ → Verdict × List ℕ
 frameEncode a b mask payload out =
     let v = settle (encodeChecks a b mask (length payload) (length out)) done in
-    (v, after v out (encoded a b mask payload))
+    (v, after v out (encodedFrame a b mask payload))
 
 -- The 256 symbols of a word: those whose word it is.
-unfoldable pub symbolsOf : ℕ → ℕ → List ℕ → List Bool
-symbolsOf a b word = symbolsIn (frameCode a b) (unpack word)
+unfoldable pub frameSymbols : ℕ → ℕ → List ℕ → List Bool
+frameSymbols a b word = symbolsIn (frameCode a b) (unpack word)
 
 -- The lowest unmarked phase where the symbols of a word have 1, or 256 where there is none.
 unfoldable pub frozenOf : ℕ → ℕ → List ℕ → List ℕ → ℕ
-frozenOf a b mask word = frozenOne (unpack mask) (symbolsOf a b word)
+frozenOf a b mask word = frozenOne (unpack mask) (frameSymbols a b word)
 
 -- The checks of frame undo, in checking order: the pair, the lengths of mask and word, the mask, the room for the payload,
 unfoldable pub requestChecks : ℕ → ℕ → List ℕ → ℕ → ℕ → List Check
@@ -58,11 +58,11 @@ undoChecks a b mask word room =
     ++ (conditionAt 9 (frozenOf a b mask word) (ltb (frozenOf a b mask word) 256) ∷ [])
 
 -- The payload of a word: its symbols at the marked phases in rising order.
-unfoldable pub undone : ℕ → ℕ → List ℕ → List ℕ → List ℕ
-undone a b mask word = pack (marked mask / 8) (gather (unpack mask) (symbolsOf a b word))
+unfoldable pub undonePayload : ℕ → ℕ → List ℕ → List ℕ → List ℕ
+undonePayload a b mask word = pack (marked mask / 8) (gather (unpack mask) (frameSymbols a b word))
 
 -- Frame undo: pair, mask and word to the payload.
 unfoldable pub frameUndo : ℕ → ℕ → List ℕ → List ℕ → List ℕ → Verdict × List ℕ
 frameUndo a b mask word out =
     let v = settle (undoChecks a b mask word (length out)) done in
-    (v, after v out (undone a b mask word))
+    (v, after v out (undonePayload a b mask word))

@@ -9,7 +9,7 @@ ghost use Rattle.answer.specs.Verdict.{verdict, done, settle};
 ghost use Rattle.mask.specs.Mask.{payloadBytes};
 ghost use Rattle.grid.specs.Grid.{rowsBits};
 ghost use Rattle.frame.specs.Frames.{frameCode};
-ghost use Rattle.frame.specs.Jobs.{encodeChecks, frameEncode, symbolsOf, requestChecks, frameUndo};
+ghost use Rattle.frame.specs.Jobs.{encodeChecks, frameEncode, frameSymbols, requestChecks, frameUndo};
 use answer::Answer;
 
 // The checks of frame encode, in checking order.
@@ -93,7 +93,7 @@ fn request_check(
 // The symbols of a word: the inverse kernels with the layers exchanged make them.
 fn word_symbols(inner: u8, outer: u8, word: &[u8]) -> [u8; 32]
     requires { ⌜ (inner < 3) × (outer < 3) × (length (now word) ≡ 32) ⌝ }
-    ensures { λ r. ⌜ unpack r ≡ symbolsOf inner outer (now (word .entry)) ⌝ }
+    ensures { λ r. ⌜ unpack r ≡ frameSymbols inner outer (now (word .entry)) ⌝ }
 {
     let rows = grid::rows_of(word);
     let made = grid::frame_rows(

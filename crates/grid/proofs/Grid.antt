@@ -10,7 +10,7 @@ use Rattle.base.proofs.Bool.{parity-cong, and-parity, parity-swap}
 use Rattle.base.proofs.List.{length-tabulate, tabulate-at, tabulate-cong}
 use Rattle.bits.specs.Packed.{bits}
 use Rattle.polar.specs.Frame.{frame}
-use Rattle.polar.proofs.Lowest.{quot, rest}
+use Rattle.polar.proofs.Minima.{quot, rest}
 use Rattle.kernel.specs.Rows.{rowBit}
 use Rattle.kernel.proofs.Rows.{chosen-sum-at}
 use Rattle.grid.specs.Grid.{kernelOf, columnSum, columnSums, rowsBits}

@@ -1,7 +1,7 @@
 // A frame's symbols and words as sixteen rows of sixteen bits, and sums of whole rows.
 ghost use mathlib.Core.Path.{_≡_};
 ghost use mathlib.Core.List.{_++_};
-ghost use Prim.Native.Nat.{_≤_, _<_};
+ghost use Prim.Native.Nat.{_+_, _*_, _≤_, _<_};
 ghost use lib.ListN.{length, drop};
 ghost use Rattle.base.specs.Bit.{tabulate};
 ghost use Rattle.bits.specs.Packed.{unpack, pack};
@@ -46,6 +46,13 @@ pub fn frame_rows(inner: [u16; 16], outer: [u16; 16], symbols: [u16; 16]) -> [u1
     column_sums(sums, inner)
 }
 
+// The row of two bytes.
+fn row_of(high: u8, low: u8) -> u16
+    ensures { λ r. ⌜ r ≡ high * 256 + low ⌝ }
+{
+    (high as u16) * 256 + low as u16
+}
+
 // The sixteen rows of 32 bytes.
 pub fn rows_of(bytes: &[u8]) -> [u16; 16]
     requires { ⌜ length (now bytes) ≡ 32 ⌝ }
@@ -54,7 +61,7 @@ pub fn rows_of(bytes: &[u8]) -> [u16; 16]
     let mut out = [0u16; 16];
     let mut r: usize = 0;
     while r < 16 {
-        out[r] = (bytes[2 * r] as u16) * 256 + bytes[2 * r + 1] as u16;
+        out[r] = row_of(bytes[2 * r], bytes[2 * r + 1]);
         r += 1;
     }
     out

@@ -3,4 +3,4 @@ pub mod Rows
 pub mod Table
 pub mod Checks
 pub mod Undoing
-pub mod Profiles
+pub mod Distances

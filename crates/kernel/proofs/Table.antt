@@ -13,9 +13,9 @@ use Rattle.polar.specs.Kernel.{arikan, product}
 use Rattle.polar.specs.Relation.{row}
 use Rattle.polar.proofs.Undo.{length-symbols-in}
 use Rattle.polar.proofs.Relation.{names, uses, word-product, row-product, symbols-product}
-use Rattle.kernel.specs.Kernels.{F, relations, kernelCode, symbolsOf}
+use Rattle.kernel.specs.Kernels.{F, relations, kernelCode, wordSymbols}
 use Rattle.kernel.specs.Rows.{rowBit, chosenSum, rowSum, table, inverseTable}
-use Rattle.kernel.specs.Jobs.{encoded, undone}
+use Rattle.kernel.specs.Jobs.{encodedWord, undoneSymbols}
 use Rattle.kernel.proofs.Solved.{solved, solution, invertible}
 
 -- Whether each bit of a table is what g says, and what that shows.
@@ -43,22 +43,22 @@ table-row k s j lk ls lj =
     ∙ sym (row-product 16 F F (relations k) (solved k) (solution k) s j ls)
 
 -- A word is the sum of the table's rows,
-pub encoded-rows : (k u : ℕ) → k < 3 → rowSum (getD table k []) u ≡ encoded k u
-unfolding chosenSum encoded
+pub encoded-rows : (k u : ℕ) → k < 3 → rowSum (getD table k []) u ≡ encodedWord k u
+unfolding chosenSum encodedWord
 encoded-rows k u lk =
     ap number (tabulate-cong 16 (λ j lj.
     parity-cong 16 (λ s ls. ap (λ b. bit (bits 16 u) s && b) (table-at table (λ k. product 16 (uses (solved k)) F) table-checked k s j lk ls lj))
     ∙ sym (word-product 16 F F (relations k) (solved k) (solution k) (bits 16 u) (length-bits 16 u) j)))
 
 -- and its symbols are the sum of the inverse's.
-pub undone-rows : (k c : ℕ) → k < 3 → rowSum (getD inverseTable k []) c ≡ undone k c
-unfolding chosenSum undone
+pub undone-rows : (k c : ℕ) → k < 3 → rowSum (getD inverseTable k []) c ≡ undoneSymbols k c
+unfolding chosenSum undoneSymbols
 undone-rows k c lk =
     ap number (tabulate-cong 16 (λ s ls.
     parity-cong 16 (λ j lj. ap (λ b. bit (bits 16 c) j && b) (table-at inverseTable (λ k. product 16 F (uses (relations k))) inverse-checked k j s lk lj ls))
     ∙ sym (symbols-product 16 F F (relations k) (solved k) (solution k) (bits 16 c) (length-bits 16 c) s ls))
-    ∙ ap (λ n. tabulate n (bit (symbolsOf k (bits 16 c)))) (sym (length-symbols-in (kernelCode k) (bits 16 c)))
-    ∙ tabulate-bits (symbolsOf k (bits 16 c)))
+    ∙ ap (λ n. tabulate n (bit (wordSymbols k (bits 16 c)))) (sym (length-symbols-in (kernelCode k) (bits 16 c)))
+    ∙ tabulate-bits (wordSymbols k (bits 16 c)))
 
 -- Row s of the inverse table is that of the inverse kernel.
 pub inverse-row : (k s j : ℕ) → k < 3 → s < 16 → j < 16 → rowBit (getD inverseTable k []) s j ≡ (invertible k) .inverse s j

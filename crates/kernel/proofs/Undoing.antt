@@ -14,8 +14,8 @@ use Rattle.polar.specs.Kernel.{code}
 use Rattle.polar.specs.Relation.{symbols, tied}
 use Rattle.polar.proofs.Undo.{undo-onto, length-symbols-in, symbols-of-word, word-of-symbols}
 use Rattle.polar.proofs.Relation.{symbols-tied, length-tied, one-v, word-symbols, word-rows, unrelated, related-undo, related-redo}
-use Rattle.kernel.specs.Kernels.{F, relations, wordBit, kernelCode, symbolsOf, kernel}
-use Rattle.kernel.specs.Jobs.{isKernel, checks, encoded, undone, kernelEncode, kernelUndo}
+use Rattle.kernel.specs.Kernels.{F, relations, wordBit, kernelCode, wordSymbols, kernel}
+use Rattle.kernel.specs.Jobs.{isKernel, checks, encodedWord, undoneSymbols, kernelEncode, kernelUndo}
 use Rattle.kernel.proofs.Solved.{solved, solution}
 
 module _ (k : ℕ) where
@@ -55,19 +55,19 @@ module _ (k : ℕ) where
   fits l e = ap (λ n. bits n (number l)) (sym e) ∙ bits-number l
 
   -- Undo of encode, over all symbols,
-  pub undone-encoded : (u : ℕ) → u < 2 ^ 16 → undone k (encoded k u) ≡ u
-  unfolding encoded undone
+  pub undone-encoded : (u : ℕ) → u < 2 ^ 16 → undoneSymbols k (encodedWord k u) ≡ u
+  unfolding encodedWord undoneSymbols
   undone-encoded u h =
       let l = tabulate 16 (wordBit k (bits 16 u)) in
-      ap (λ c. number (symbolsOf k c)) (fits l (length-tabulate 16 _))
+      ap (λ c. number (wordSymbols k c)) (fits l (length-tabulate 16 _))
       ∙ ap number (symbols-of-word (kernelCode k) unkernel undoes redoes (bits 16 u) (length-bits 16 u))
       ∙ number-bits-fit 16 u h
 
   -- and encode of undo, over all words.
-  pub encoded-undone : (c : ℕ) → c < 2 ^ 16 → encoded k (undone k c) ≡ c
-  unfolding encoded undone
+  pub encoded-undone : (c : ℕ) → c < 2 ^ 16 → encodedWord k (undoneSymbols k c) ≡ c
+  unfolding encodedWord undoneSymbols
   encoded-undone c h =
-      let u = symbolsOf k (bits 16 c) in
+      let u = wordSymbols k (bits 16 c) in
       ap (λ l. number (tabulate 16 (wordBit k l))) (fits u (length-symbols-in (kernelCode k) (bits 16 c)))
       ∙ ap number (word-of-symbols (kernelCode k) unkernel undoes redoes (bits 16 c) (length-bits 16 c))
       ∙ number-bits-fit 16 c h

@@ -6,7 +6,7 @@ use lib.Dec.{eqb}
 use Rattle.base.specs.Bit.{tabulate}
 use Rattle.bits.specs.Packed.{bits, number}
 use Rattle.answer.specs.Verdict.{Verdict, word, Check, condition, settle}
-use Rattle.kernel.specs.Kernels.{wordBit, symbolsOf}
+use Rattle.kernel.specs.Kernels.{wordBit, wordSymbols}
 
 -- Whether a kernel number is 0, 1 or 2.
 unfoldable pub isKernel : ℕ → Bool
@@ -21,17 +21,17 @@ unfoldable pub checks : ℕ → List Check
 checks k = condition 1 (not (isKernel k)) ∷ []
 
 -- The sixteen bits of the word of sixteen symbols.
-unfoldable pub encoded : ℕ → ℕ → ℕ
-encoded k u = number (tabulate 16 (wordBit k (bits 16 u)))
+unfoldable pub encodedWord : ℕ → ℕ → ℕ
+encodedWord k u = number (tabulate 16 (wordBit k (bits 16 u)))
 
 -- The sixteen symbols of a word of sixteen bits.
-unfoldable pub undone : ℕ → ℕ → ℕ
-undone k c = number (symbolsOf k (bits 16 c))
+unfoldable pub undoneSymbols : ℕ → ℕ → ℕ
+undoneSymbols k c = number (wordSymbols k (bits 16 c))
 
 -- Kernel encode: kernel number and symbols to the word.
 abbrev pub kernelEncode : ℕ → ℕ → Verdict
-kernelEncode k u = settle (checks k) (word (encoded k u))
+kernelEncode k u = settle (checks k) (word (encodedWord k u))
 
 -- Kernel undo: kernel number and word to the symbols.
 abbrev pub kernelUndo : ℕ → ℕ → Verdict
-kernelUndo k c = settle (checks k) (word (undone k c))
+kernelUndo k c = settle (checks k) (word (undoneSymbols k c))

@@ -32,8 +32,8 @@ abbrev pub kernelCode : ℕ → Code
 kernelCode k = record { size = 16; places = 16; word = wordBit k }
 
 -- The symbols of a word: those whose word it is.
-abbrev pub symbolsOf : ℕ → List Bool → List Bool
-symbolsOf k c = symbolsIn (kernelCode k) c
+abbrev pub wordSymbols : ℕ → List Bool → List Bool
+wordSymbols k c = symbolsIn (kernelCode k) c
 
 -- The kernel as a matrix: row s is the word with only symbol s set.
 abbrev pub kernel : ℕ → Kernel

@@ -1,4 +1,4 @@
 pub mod Kernels
 pub mod Rows
 pub mod Jobs
-pub mod Profiles
+pub mod Distances

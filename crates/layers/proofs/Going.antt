@@ -9,9 +9,9 @@ use native.Mathlib.Omega.{arith}
 use lib.IntN.{ℤ, pos, negsuc, natAbs, negℤ, _-ℤ_}
 use lib.ListN.{length, getD, take, set, length-set, length-append}
 use lib.Seq.{take-suc, length-take-le, take-set-le, getD-set-same, getD-set-other, ext-getD}
-use Rattle.base.specs.Bit.{bit}
+use Rattle.base.specs.Bit.{bit, digit}
 use Rattle.base.proofs.List.{each-next}
-use Rattle.bits.specs.Packed.{bits, digit}
+use Rattle.bits.specs.Packed.{bits}
 use Rattle.bits.proofs.Packed.{length-bits}
 use Rattle.polar.specs.Code.{Code, Costs, pay, channel, least, score}
 use Rattle.polar.specs.Follow.{scores}

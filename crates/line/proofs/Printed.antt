@@ -12,7 +12,7 @@ use Rattle.answer.specs.Verdict.{Verdict, isAccepted, numberOf, placeOf}
 use Rattle.mask.specs.Mask.{partLength, payloadPart}
 use Rattle.mask.proofs.Mask.{part-le}
 use Rattle.decode.specs.Jobs.{frameDecode}
-use Rattle.line.specs.Line.{okLines, refusedLine, lineOf, valueOf, maskOf, decodeOf, line}
+use Rattle.line.specs.Line.{okLines, refusedLine, lineOf, signedByte, maskOf, decodeOf, line}
 
 -- The payload part of 32 bytes is no longer than they are.
 pub part-short : (mask payload : List ℕ) → length payload ≡ 32 → length (payloadPart mask payload) ≤ 32
@@ -36,14 +36,14 @@ module _ (mask : List ℕ) (v : Verdict) (scores : List ℤ) (penalties payload 
 
 -- The part after the mask, as the code cuts it, has all the value bytes.
 pub decode-is : (input : List ℕ) (values : List ℤ) (job : Verdict × List ℤ × List ℕ × List ℕ) → length input ≡ 290
-    → values ≡ map valueOf (take (length input - 34) (drop 34 input))
+    → values ≡ map signedByte (take (length input - 34) (drop 34 input))
     → frameDecode (getD input 0 0) (getD input 1 0) values (maskOf input) (replicate 256 (pos 0)) (replicate 256 0) (replicate 32 0) ≡ job
     → decodeOf input ≡ job
 unfolding decodeOf
 decode-is input values job n e j =
     let l : length (drop 34 input) ≤ length input - 34 = omega (arith, length-drop 34 input) in
     ap (λ (ys : List ℤ). frameDecode (getD input 0 0) (getD input 1 0) ys (maskOf input) (replicate 256 (pos 0)) (replicate 256 0) (replicate 32 0))
-    (sym (e ∙ ap (map valueOf) (take-all (length input - 34) (drop 34 input) l)))
+    (sym (e ∙ ap (map signedByte) (take-all (length input - 34) (drop 34 input) l)))
     ∙ j
 
 -- An input of another length is refused,

@@ -9,14 +9,14 @@ use native.Mathlib.Omega.{arith}
 use borrow.Author.Tests.{lt-ltb, le-ltb}
 use lib.Dec.{ltb}
 use lib.ListN.{length, getD}
-use Rattle.line.specs.Line.{digit, decimal, hexadecimal}
+use Rattle.line.specs.Line.{hexDigit, decimal, hexadecimal}
 use Rattle.line.proofs.Text.{digit-low, digit-high, decimal-one, decimal-more}
 
 -- The number of a digit's ASCII code, of small hexadecimal.
 abbrev pub worth : ℕ → ℕ
 worth c = elim (ltb c 58) [ true ↦ c - 48 | false ↦ c - 87 ]
 
-worth-digit : (d : ℕ) → d < 16 → worth (digit d) ≡ d
+worth-digit : (d : ℕ) → d < 16 → worth (hexDigit d) ≡ d
 worth-digit d l = go (decLt d 10)
   where
     below : (c : ℕ) → c < 58 → worth c ≡ c - 48
@@ -25,7 +25,7 @@ worth-digit d l = go (decLt d 10)
     above : (c : ℕ) → 58 < suc c → worth c ≡ c - 87
     above c h = ap (λ t. elim t as (λ _. ℕ) [ true ↦ c - 48 | false ↦ c - 87 ]) (le-ltb c 58 (omega arith))
 
-    go : Dec (d < 10) → worth (digit d) ≡ d
+    go : Dec (d < 10) → worth (hexDigit d) ≡ d
     go (yes h) = ap worth (sym (digit-low d h)) ∙ below (48 + d) (omega arith) ∙ omega arith
     go (no h) = ap worth (sym (digit-high d (omega arith))) ∙ above (87 + d) (omega arith) ∙ omega arith
 
@@ -47,14 +47,14 @@ unfolding readFrom
 read-below zero n l = absurd (omega arith)
 read-below (suc k) n l = go (decLt n 10) (read-below k (n / 10))
   where
-    one : n < 10 → readFrom 0 (digit n ∷ []) ≡ n
+    one : n < 10 → readFrom 0 (hexDigit n ∷ []) ≡ n
     one h = ap (λ x. 0 * 10 + x) (worth-digit n (omega arith)) ∙ omega arith
 
     go : Dec (n < 10) → (n / 10 < k → readFrom 0 (decimal (n / 10)) ≡ n / 10) → readFrom 0 (decimal n) ≡ n
     go (yes h) ih = ap (readFrom 0) (decimal-one n h) ∙ one h
     go (no h) ih =
         ap (readFrom 0) (decimal-more n (omega arith))
-        ∙ read-last 0 (decimal (n / 10)) (digit (n % 10))
+        ∙ read-last 0 (decimal (n / 10)) (hexDigit (n % 10))
         ∙ ap₂ (λ x y. x * 10 + y) (ih (omega arith)) (worth-digit (n % 10) (omega arith))
         ∙ omega arith
 
@@ -72,7 +72,7 @@ first-below (suc k) n l p = go (decLt n 10) (first-below k (n / 10))
   where
     go : Dec (n < 10) → (n / 10 < k → 0 < n / 10 → 48 < getD (decimal (n / 10)) 0 0) → 48 < getD (decimal n) 0 0
     go (yes h) ih = rw (decimal-one n h, ← digit-low n h) (omega arith)
-    go (no h) ih = rw (decimal-more n (omega arith)) (first-of (decimal (n / 10)) (digit (n % 10)) (ih (omega arith) (omega arith)))
+    go (no h) ih = rw (decimal-more n (omega arith)) (first-of (decimal (n / 10)) (hexDigit (n % 10)) (ih (omega arith) (omega arith)))
 
 pub decimal-leads : (n : ℕ) → 0 < n → 48 < getD (decimal n) 0 0
 decimal-leads n = first-below (suc n) n (omega arith)

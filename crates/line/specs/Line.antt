@@ -12,13 +12,13 @@ use Rattle.decode.specs.Jobs.{frameDecode}
 -- ---- text, as ASCII codes
 
 -- The digit of a number below 16: `0` to `9`, then `a` to `f`.
-abbrev pub digit : ℕ → ℕ
-digit d = elim (ltb d 10) [ true ↦ 48 + d | false ↦ 87 + d ]
+abbrev pub hexDigit : ℕ → ℕ
+hexDigit d = elim (ltb d 10) [ true ↦ 48 + d | false ↦ 87 + d ]
 
 -- The decimal digits of n, of which there are at most k.
 unfoldable pub decimalWithin : ℕ → ℕ → List ℕ
 decimalWithin zero n = []
-decimalWithin (suc k) n = elim (ltb n 10) [ true ↦ digit n ∷ [] | false ↦ decimalWithin k (n / 10) ++ (digit (n % 10) ∷ []) ]
+decimalWithin (suc k) n = elim (ltb n 10) [ true ↦ hexDigit n ∷ [] | false ↦ decimalWithin k (n / 10) ++ (hexDigit (n % 10) ∷ []) ]
 
 -- The decimal digits of n, the most significant first, with no leading zero. A number n has at most n + 1 of them.
 unfoldable pub decimal : ℕ → List ℕ
@@ -27,7 +27,7 @@ decimal n = decimalWithin (suc n) n
 -- Bytes in small hexadecimal, two digits each.
 unfoldable pub hexadecimal : List ℕ → List ℕ
 hexadecimal [] = []
-hexadecimal (b ∷ bytes) = digit (b / 16) ∷ digit (b % 16) ∷ hexadecimal bytes
+hexadecimal (b ∷ bytes) = hexDigit (b / 16) ∷ hexDigit (b % 16) ∷ hexadecimal bytes
 
 -- `ok`
 abbrev pub okText : List ℕ
@@ -62,8 +62,8 @@ lineOf mask (v, scores, penalties, payload) =
 -- ---- the input
 
 -- A value byte in two's complement.
-abbrev pub valueOf : ℕ → ℤ
-valueOf b = elim (ltb b 128) [ true ↦ pos b | false ↦ pos b -ℤ pos 256 ]
+abbrev pub signedByte : ℕ → ℤ
+signedByte b = elim (ltb b 128) [ true ↦ pos b | false ↦ pos b -ℤ pos 256 ]
 
 -- The mask: 32 bytes after those of A and B.
 abbrev pub maskOf : List ℕ → List ℕ
@@ -71,7 +71,7 @@ maskOf input = take 32 (drop 2 input)
 
 -- The values: all bytes after the mask.
 abbrev pub valuesOf : List ℕ → List ℤ
-valuesOf input = map valueOf (drop 34 input)
+valuesOf input = map signedByte (drop 34 input)
 
 -- Frame decode of an input, into buffers of the length that it needs: inner kernel A, outer kernel B, values and mask.
 unfoldable pub decodeOf : List ℕ → Verdict × List ℤ × List ℕ × List ℕ

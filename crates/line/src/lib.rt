@@ -4,15 +4,15 @@ ghost use mathlib.Core.List.{_++_, map};
 ghost use Prim.Native.Nat.{_+_, _≤_, _<_};
 ghost use lib.ListN.{length, drop};
 ghost use Rattle.answer.specs.Verdict.{verdict, numberOf, placeOf};
-ghost use Rattle.line.specs.Line.{decimal, hexadecimal, okLines, refusedLine, lineOf, valueOf, maskOf, decodeOf};
-ghost use Rattle.line.specs.Line.{digit as Line·digit, line as Line·line};
+ghost use Rattle.line.specs.Line.{hexDigit, decimal, hexadecimal, okLines, refusedLine, lineOf, signedByte, maskOf, decodeOf};
+ghost use Rattle.line.specs.Line.{line as Line·line};
 ghost use Rattle.line.specs.Put.{Put};
 use answer::Answer;
 
 // The ASCII code of a digit below 16.
 fn digit(d: u8) -> u8
     requires { ⌜ d < 16 ⌝ }
-    ensures { λ r. ⌜ r ≡ Line·digit d ⌝ }
+    ensures { λ r. ⌜ r ≡ hexDigit d ⌝ }
 {
     if d < 10 { 48 + d } else { 87 + d }
 }
@@ -89,7 +89,7 @@ fn put_ok(penalty: u16, payload: &[u8], out: &mut [u8]) -> usize
 
 // A value byte in two's complement.
 fn value(b: u8) -> i8
-    ensures { λ r. ⌜ r ≡ valueOf b ⌝ }
+    ensures { λ r. ⌜ r ≡ signedByte b ⌝ }
 {
     if b < 128 {
         b as i8
@@ -101,7 +101,7 @@ fn value(b: u8) -> i8
 // The values of 256 value bytes.
 fn values(bytes: &[u8]) -> [i8; 256]
     requires { ⌜ length (now bytes) ≡ 256 ⌝ }
-    ensures { λ r. ⌜ r ≡ map valueOf (now (bytes .entry)) ⌝ }
+    ensures { λ r. ⌜ r ≡ map signedByte (now (bytes .entry)) ⌝ }
 {
     let mut out = [0i8; 256];
     let mut i: usize = 0;
@@ -118,14 +118,14 @@ fn put_decoded(input: &[u8], out: &mut [u8]) -> usize
     ensures { λ r. ⌜ Put (lineOf (maskOf (now (input .entry))) (decodeOf (now (input .entry)))) 0 r (now (out .entry)) (now (out .exit)) ⌝ }
 {
     let mask = &input[2..34];
-    let sent = values(&input[34..]);
+    let received = values(&input[34..]);
     let mut scores = [0i16; 256];
     let mut penalties = [0u16; 256];
     let mut payload = [0u8; 32];
     let a = decode::frame_decode(
         input[0],
         input[1],
-        &sent,
+        &received,
         mask,
         &mut scores,
         &mut penalties,

@@ -10,7 +10,7 @@ use lib.Dec.{ltb, eqb}
 use lib.ListN.{length, getD}
 use Rattle.base.specs.Bit.{every}
 use Rattle.base.proofs.Bool.{every-at}
-use Rattle.order.specs.Order.{product, Before, IsOrder, order, among}
+use Rattle.order.specs.Order.{distanceProduct, Before, IsOrder, order, among}
 use Rattle.order.proofs.Sorted.{Neighbours, in-at, index-of, sorted-only}
 
 -- ---- the tests
@@ -29,23 +29,23 @@ all-test = refl
 
 -- Whether a phase comes before another.
 unfoldable before : ℕ → ℕ → Bool
-before x y = ltb (product y) (product x) || (eqb (product y) (product x) && ltb y x)
+before x y = ltb (distanceProduct y) (distanceProduct x) || (eqb (distanceProduct y) (distanceProduct x) && ltb y x)
 
 falling-test : every 255 (λ i. before (getD order i 0) (getD order (suc i) 0)) ≡ true
-unfolding every before product order
+unfolding every before distanceProduct order
 falling-test = refl
 
 -- ---- what they show
 
 before-is : (x y : ℕ) → before x y ≡ true → Before x y
 unfolding before
-before-is x y t = go (ltb (product y) (product x)) refl t
+before-is x y t = go (ltb (distanceProduct y) (distanceProduct x)) refl t
   where
-    go : (c : Bool) → ltb (product y) (product x) ≡ c → (c || (eqb (product y) (product x) && ltb y x)) ≡ true → Before x y
-    go true e t = inl (ltb-true (product y) (product x) e)
+    go : (c : Bool) → ltb (distanceProduct y) (distanceProduct x) ≡ c → (c || (eqb (distanceProduct y) (distanceProduct x) && ltb y x)) ≡ true → Before x y
+    go true e t = inl (ltb-true (distanceProduct y) (distanceProduct x) e)
     go false e t =
-        let h = (and-eq-true-iff (eqb (product y) (product x)) (ltb y x)) .0 t in
-        inr (eqb-true (product y) (product x) (h .0), ltb-true y x (h .1))
+        let h = (and-eq-true-iff (eqb (distanceProduct y) (distanceProduct x)) (ltb y x)) .0 t in
+        inr (eqb-true (distanceProduct y) (distanceProduct x) (h .0), ltb-true y x (h .1))
 
 among-in : (x : ℕ) (l : List ℕ) → among x l ≡ true → List·Memᴰ x l
 unfolding among

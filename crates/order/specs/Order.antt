@@ -7,15 +7,15 @@ use Prim.Native.Nat.{ℕ, suc, _*_, _/_, _%_, _<_}
 use lib.Dec.{eqb}
 use lib.ListN.{length, getD, take}
 use Rattle.base.specs.Bit.{tabulate}
-use Rattle.kernel.specs.Profiles.{profileTable}
+use Rattle.kernel.specs.Distances.{distanceTable}
 
--- D[r] × D[s] of phase 16r + s, with the profile numbers D of kernel 2.
-unfoldable pub product : ℕ → ℕ
-product x = getD (profileTable 2) (x / 16) 0 * getD (profileTable 2) (x % 16) 0
+-- D[r] × D[s] of phase 16r + s, with the partial distances D of kernel 2.
+unfoldable pub distanceProduct : ℕ → ℕ
+distanceProduct x = getD (distanceTable 2) (x / 16) 0 * getD (distanceTable 2) (x % 16) 0
 
 -- Phase x comes before phase y: its product is greater, or the products are equal and the phase is greater.
 abbrev pub Before : ℕ → ℕ → Type 0
-Before x y = (product y < product x) ⊎ ((product y ≡ product x) × (y < x))
+Before x y = (distanceProduct y < distanceProduct x) ⊎ ((distanceProduct y ≡ distanceProduct x) × (y < x))
 
 -- What makes a list the information order: it lists the 256 phases by falling product, equal products by falling phase.
 pub record IsOrder (l : List ℕ) : Type 0 where

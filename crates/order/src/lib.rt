@@ -7,7 +7,7 @@ ghost use Rattle.order.specs.Order.{order, informationBits};
 ghost use Rattle.order.specs.Jobs.{informationMask};
 use answer::Answer;
 
-// The 256 phases by falling product of their rows' profile numbers, equal products by falling phase.
+// The 256 phases by falling product of their rows' partial distances, equal products by falling phase.
 const ORDER: [u8; 256] = [
     255,
     254,

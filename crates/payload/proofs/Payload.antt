@@ -12,8 +12,8 @@ use lib.Count.{ones-cat}
 use lib.ListN.{length, getD, drop}
 use lib.Pow.{pow-pos, split, shr-lt}
 use lib.Seq.{drop-nil}
-use Rattle.base.specs.Bit.{bit, odd}
-use Rattle.bits.specs.Packed.{bits, digit, unpack, pad, pack}
+use Rattle.base.specs.Bit.{bit, odd, digit}
+use Rattle.bits.specs.Packed.{bits, unpack, pad, pack}
 use Rattle.payload.specs.Payload.{ones, spread, gather, frozenOne}
 use Rattle.bits.proofs.Packed.{bits-mod, length-unpack, unpack-next, unpack-pack, packed}
 

@@ -13,11 +13,11 @@ use lib.Seq.{getD-append-add, take-all}
 use lib.Pow.{field, mod-mod-pow}
 use Rattle.base.specs.Bit.{_⊕_, odd, bit, parity, every}
 use Rattle.base.proofs.Bool.{⊕-false, parity-cong, parity-blocks, parity-and}
-use Rattle.polar.specs.Code.{Code, Costs, sum, total, lowest, least, Onto}
+use Rattle.polar.specs.Code.{Code, Costs, sum, total, minimum, least, Onto}
 use Rattle.polar.specs.Kernel.{arikan, matrix}
 use Rattle.polar.specs.Stages.{rows, staged, block, pairs}
 use Rattle.polar.specs.Fold.{freeFold, knownFold}
-use Rattle.polar.proofs.Lowest.{lowest-cong, sum-cong, sum-blocks, sum-add, quot, rest}
+use Rattle.polar.proofs.Minima.{minimum-cong, sum-cong, sum-blocks, sum-add, quot, rest}
 use Rattle.polar.proofs.Least.{least-cong}
 use Rattle.polar.proofs.Layer.{layer}
 use Rattle.polar.proofs.Frame.{stages}
@@ -108,8 +108,8 @@ total-shuffle t m u =
 least-shuffle : (t : ℕ) (m : Costs) (p : List Bool) → least (arikanCode (suc t)) m p ≡ least (staged (arikanCode t) both) (shuffle (2 ^ t) m) p
 unfolding least
 least-shuffle t m p =
-    ap (λ n. lowest (n - length p) (λ s. total (arikanCode (suc t)) m (p ++ s))) (pow-succ' 2 t)
-    ∙ lowest-cong _ (λ s _. total-shuffle t m (p ++ s))
+    ap (λ n. minimum (n - length p) (λ s. total (arikanCode (suc t)) m (p ++ s))) (pow-succ' 2 t)
+    ∙ minimum-cong _ (λ s _. total-shuffle t m (p ++ s))
 
 -- ---- words of two halves
 
@@ -210,7 +210,7 @@ total-both m x y =
     sum-two (λ i. m i (both .word (x ∷ y ∷ []) i)) ∙ ap₂ (λ a b. m 0 a + m 1 b) ((both-word x y) .0) ((both-word x y) .1)
 
 least-one : (m : Costs) (x : Bool) → least both m (x ∷ []) ≡ min (m 0 x + m 1 false) (m 0 (not x) + m 1 true)
-unfolding least lowest
+unfolding least minimum
 least-one m x = ap₂ min (total-both m x false ∙ ap (λ b. m 0 b + m 1 false) (⊕-false x)) (total-both m x true ∙ ap (λ b. m 0 b + m 1 true) (⊕-true x))
   where
     ⊕-true : (x : Bool) → x ⊕ true ≡ not x
@@ -218,7 +218,7 @@ least-one m x = ap₂ min (total-both m x false ∙ ap (λ b. m 0 b + m 1 false)
     ⊕-true true = refl
 
 least-two : (m : Costs) (x y : Bool) → least both m (x ∷ y ∷ []) ≡ m 0 (x ⊕ y) + m 1 y
-unfolding least lowest
+unfolding least minimum
 least-two m x y = total-both m x y
 
 -- The costs of block j in the order of the stages.

@@ -11,10 +11,10 @@ use lib.ListN.{length, take, drop, length-drop, take-append-drop}
 use lib.Seq.{getD-take, getD-drop, length-take-le}
 use Rattle.base.specs.Bit.{_⊕_, bit, parity, every}
 use Rattle.base.proofs.Bool.{⊕-false, parity-cong, parity-append, parity-false}
-use Rattle.polar.specs.Code.{Costs, sum, total, lowest, least}
+use Rattle.polar.specs.Code.{Costs, sum, total, minimum, least}
 use Rattle.polar.specs.Kernel.{arikan}
 use Rattle.polar.specs.Fold.{freeFold, knownFold, level, folded, blocks}
-use Rattle.polar.proofs.Lowest.{quot, rest}
+use Rattle.polar.proofs.Minima.{quot, rest}
 use Rattle.polar.proofs.Least.{least-cong}
 use Rattle.polar.proofs.Fold.{arikanCode, least-free, least-known}
 
@@ -90,7 +90,7 @@ blocks-free t n k j l = blocks-at t n k j ∙ ap (above t n k j) (lt-leb (2 ^ t)
 
 -- One place: the last bit pays.
 folded-last : (m : Costs) (q : List Bool) (y : ℕ → Bool) → length q ≡ 1 → Words 0 0 q y → least (arikanCode 0) m q ≡ m 0 (y 0)
-unfolding least lowest total sum arikan every parity blocks
+unfolding least minimum total sum arikan every parity blocks
 folded-last m [] y e h = absurd (omega arith)
 folded-last m (b ∷ []) y e h = add-zero _ ∙ ap (m 0) (sym (h 0 (omega arith)))
 folded-last m (b ∷ c ∷ q) y e h = absurd (omega arith)

@@ -12,7 +12,7 @@ use Rattle.polar.specs.Code.{Code, Costs, least, score, Onto, UndoneBy}
 use Rattle.polar.specs.Kernel.{matrix, Kernel, code, Invertible, inverted}
 use Rattle.polar.specs.Frame.{frame, layers}
 use Rattle.polar.specs.Stages.{rows, staged, pairs, soft}
-use Rattle.polar.proofs.Lowest.{quot, rest}
+use Rattle.polar.proofs.Minima.{quot, rest}
 use Rattle.polar.proofs.Layer.{layer, pos-right}
 use Rattle.polar.proofs.Values.{layer-scores}
 use Rattle.polar.proofs.Undo.{column-at, staged-undo, undo-onto}

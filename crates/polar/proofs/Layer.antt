@@ -8,9 +8,9 @@ use native.Mathlib.Numerals.{add-one}
 use native.Mathlib.Omega.{arith}
 use lib.ListN.{length, take, drop, length-append, length-map, length-drop, take-append-drop}
 use lib.Seq.{take-at, drop-at, take-append-le, drop-append-le, length-take-le}
-use Rattle.polar.specs.Code.{Code, Costs, sum, total, lowest, least, Onto}
+use Rattle.polar.specs.Code.{Code, Costs, sum, total, minimum, least, Onto}
 use Rattle.polar.specs.Stages.{rows, column, staged, block, pairs}
-use Rattle.polar.proofs.Lowest.{lowest-cong, lowest-append, sum-cong, sum-blocks, quot, rest}
+use Rattle.polar.proofs.Minima.{minimum-cong, minimum-append, sum-cong, sum-blocks, quot, rest}
 use Rattle.polar.proofs.Least.{free}
 
 -- Rows of symbols one after the other.
@@ -44,21 +44,21 @@ unfolding rows
 column-rows A r k u v t j eu ev = rw (rows-append (A .size) r (suc k) u (v ++ t) eu, map-append, take-at v t _ ev, drop-at v t _ ev)
 
 pairs-are : (A B : Code) (m : Costs) (U : List (List Bool)) (j : ℕ) (b : Bool)
-    → pairs A B m U j b ≡ lowest (B .size - suc (length U)) (λ c. total B (block (B .places) m j) (column A U j ++ (b ∷ c)))
+    → pairs A B m U j b ≡ minimum (B .size - suc (length U)) (λ c. total B (block (B .places) m j) (column A U j ++ (b ∷ c)))
 unfolding pairs least
 pairs-are A B m U j b = simp (length-append, length-map, add-one, append-assoc)
 
 module _ (A : Code) (onto : Onto A) where
   -- Rows that are all free: each outer word is free by itself.
   pub rows-free : (k : ℕ) (F : ℕ → List Bool → ℕ)
-      → lowest (k * A .size) (λ t. sum (A .places) (λ j. F j (column A (rows (A .size) k t) j))) ≡ sum (A .places) (λ j. lowest k (F j))
-  unfolding lowest rows total
+      → minimum (k * A .size) (λ t. sum (A .places) (λ j. F j (column A (rows (A .size) k t) j))) ≡ sum (A .places) (λ j. minimum k (F j))
+  unfolding minimum rows total
   rows-free zero F = rw zero-mul
   rows-free (suc k) F =
-      rw (suc-mul, add-comm (k * A .size) (A .size), lowest-append)
-      (lowest-cong (A .size) (λ s e. lowest-cong (k * A .size) (λ t _. rw (take-at s t _ e, drop-at s t _ e))
+      rw (suc-mul, add-comm (k * A .size) (A .size), minimum-append)
+      (minimum-cong (A .size) (λ s e. minimum-cong (k * A .size) (λ t _. rw (take-at s t _ e, drop-at s t _ e))
       ∙ rows-free k (λ j c. F j (A .word s j ∷ c)))
-      ∙ free A onto (λ j b. lowest k (λ c. F j (b ∷ c))))
+      ∙ free A onto (λ j b. minimum k (λ c. F j (b ∷ c))))
 
   -- With k further rows to come.
   layer-rows : (B : Code) (m : Costs) (r k : ℕ) (u p : List Bool) → length u ≡ r * A .size → B .size ≡ r + suc k → length p ≤ A .size
@@ -68,10 +68,10 @@ module _ (A : Code) (onto : Onto A) where
       let el : B .size * A .size - length (u ++ p) ≡ (A .size - length p) + k * A .size =
       omega (arith, length-append u p, add-mul r (suc k) (A .size), suc-mul k (A .size), ap (λ z. z * A .size) en) in
       let ek : B .size - suc r ≡ k = omega arith in
-      rw (el, lowest-append)
-      (lowest-cong (A .size - length p) (λ s es.
+      rw (el, minimum-append)
+      (minimum-cong (A .size - length p) (λ s es.
       let ep : length (p ++ s) ≡ A .size = omega (arith, length-append p s) in
-      lowest-cong (k * A .size) (λ t _. staged-total A B m _ ∙ sum-cong (A .places) (λ j l. ap (total B (block (B .places) m j))
+      minimum-cong (k * A .size) (λ t _. staged-total A B m _ ∙ sum-cong (A .places) (λ j l. ap (total B (block (B .places) m j))
       (rw (en, append-assoc u p (s ++ t), ← (append-assoc p s t)) (column-rows A r k u (p ++ s) t j eu ep))))
       ∙ rows-free k (λ j c. total B (block (B .places) m j) (column A (rows (A .size) r u) j ++ (A .word (p ++ s) j ∷ c)))
       ∙ sum-cong (A .places) (λ j l. rw (pairs-are A B m (rows (A .size) r u) j (A .word (p ++ s) j), length-rows, ek))))

@@ -1,9 +1,9 @@
 -- Frames of any number of layers: one layer theorem, one undoing and one sum for all of them. Assumes nothing.
-use mathlib.Core.Path.{_≡_, refl, sym, ap, ap₂, _∙_, fun-ext, subst⁻¹}
+use mathlib.Core.Path.{_≡_, refl, sym, ap, _∙_, fun-ext, subst⁻¹}
 use mathlib.Core.Bool.{Bool, _&&_}
 use mathlib.Core.List.{List, [], _∷_, _++_, map}
-use Prim.Native.Nat.{ℕ, zero, suc, _*_, _/_, _%_, _^_, _<_}
-use native.Mathlib.Nat.{pow-suc, pow-succ', pow-zero, one-mul, mul-comm}
+use Prim.Native.Nat.{ℕ, zero, suc, _*_, _/_, _%_, _<_}
+use native.Mathlib.Nat.{mul-comm}
 use lib.ListN.{length, drop}
 use lib.IntN.{ℤ}
 use Rattle.base.specs.Bit.{bit, parity}
@@ -113,8 +113,3 @@ layers-redo K v m = rw (layers-tower K v m) ((tower (coders K v) m) .redo)
 -- Every word of such a frame's size is one of its words.
 pub layers-onto : (K : ℕ → Kernel) (v : (i : ℕ) → Invertible (K i)) (m : ℕ) → Onto (layers K m)
 layers-onto K v m = subst⁻¹ Onto (layers-tower K v m) (coder-onto (tower (coders K v) m))
-
--- Kernels of n symbols in m + 1 layers make frames of n to the power m + 1.
-pub extent-power : (n : ℕ) (K : ℕ → Kernel) → ((i : ℕ) → (K i) .dim ≡ n) → (m : ℕ) → extent K m ≡ n ^ suc m
-extent-power n K h zero = rw (pow-suc, pow-zero, one-mul) (h zero)
-extent-power n K h (suc m) = rw pow-succ' (ap₂ _*_ (h (suc m)) (extent-power n K h m))

@@ -12,28 +12,28 @@ use borrow.Author.Tests.{le-ltb}
 use lib.Dec.{le→leb, leb→le}
 use lib.IntN.{ℤ, pos, negsuc, negℤ, subℕ, _+ℤ_, _-ℤ_, negℤ-negℤ}
 use lib.Signed.{_≤ℤ_, leZ-yes}
-use Rattle.polar.specs.Code.{Code, Costs, pay, channel, sum, total, lowest, least, bestScore, IsBest, score, Onto}
-use Rattle.polar.proofs.Lowest.{lowest-le, lowest-at, lowest-cong, sum-cong, sum-le, sum-zero, sum-const}
+use Rattle.polar.specs.Code.{Code, Costs, pay, channel, sum, total, minimum, least, bestScore, IsBest, score, Onto}
+use Rattle.polar.proofs.Minima.{minimum-le, minimum-at, minimum-cong, sum-cong, sum-le, sum-zero, sum-const}
 
 -- Every word that begins with p pays at least the least,
 pub least-le : (C : Code) (m : Costs) (p t : List Bool) → length (p ++ t) ≡ C .size → least C m p ≤ total C m (p ++ t)
 unfolding least
 least-le C m p t e =
     let l : C .size - length p ≡ length t = omega (arith, length-append p t) in
-    rw l (lowest-le t (λ s. total C m (p ++ s)))
+    rw l (minimum-le t (λ s. total C m (p ++ s)))
 
 -- and one of them pays it.
 pub least-at : (C : Code) (m : Costs) (p : List Bool) → length p ≤ C .size
     → (t : List Bool) × (length (p ++ t) ≡ C .size) × (total C m (p ++ t) ≡ least C m p)
 unfolding least
 least-at C m p l =
-    let a = lowest-at (C .size - length p) (λ s. total C m (p ++ s)) in
+    let a = minimum-at (C .size - length p) (λ s. total C m (p ++ s)) in
     (a .0, omega (arith, length-append p (a .0), a .1), a .2)
 
 -- The least after p is the lesser of those after p 0 and p 1.
 pub least-step : (C : Code) (m : Costs) (p : List Bool) → length p < C .size
     → least C m p ≡ min (least C m (p ++ (false ∷ []))) (least C m (p ++ (true ∷ [])))
-unfolding least lowest
+unfolding least minimum
 least-step C m p l =
     let e : C .size - length p ≡ suc (C .size - suc (length p)) = omega arith in
     rw e (simp (length-append, add-one, append-assoc))
@@ -51,15 +51,15 @@ min-lower c false = omega arith
 min-lower c true = omega arith
 
 -- An onto code can choose each place's bit by itself.
-pub free : (C : Code) → Onto C → (m : Costs) → lowest (C .size) (total C m) ≡ sum (C .places) (λ i. min (m i false) (m i true))
+pub free : (C : Code) → Onto C → (m : Costs) → minimum (C .size) (total C m) ≡ sum (C .places) (λ i. min (m i false) (m i true))
 unfolding total
 free C onto m =
     let o = onto (λ i. (cheaper (m i)) .0) in
-    let a = lowest-at (C .size) (total C m) in
+    let a = minimum-at (C .size) (total C m) in
     let e : total C m (o .0) ≡ sum (C .places) (λ i. min (m i false) (m i true)) =
     sum-cong (C .places) (λ i l. ap (m i) (o .2 i l) ∙ (cheaper (m i)) .1) in
     le-antisymm
-    (rw (← e, ← (o .1)) (lowest-le (o .0) (total C m)))
+    (rw (← e, ← (o .1)) (minimum-le (o .0) (total C m)))
     (rw (← (a .2)) (sum-le (C .places) (λ i. min-lower (m i) (C .word (a .0) i))))
 
 -- Before any symbol an onto code pays at each place the lesser cost.
@@ -82,13 +82,13 @@ channel-nil C onto ys = least-nil C onto (channel ys) (λ i. pay-free (getD ys i
 -- Costs that agree at the code's places give one least.
 pub least-cong : (C : Code) {m m′ : Costs} → ((i : ℕ) → i < C .places → (b : Bool) → m i b ≡ m′ i b) → (p : List Bool) → least C m p ≡ least C m′ p
 unfolding least total
-least-cong C h p = lowest-cong _ (λ t _. sum-cong (C .places) (λ i l. h i l (C .word (p ++ t) i)))
+least-cong C h p = minimum-cong _ (λ t _. sum-cong (C .places) (λ i l. h i l (C .word (p ++ t) i)))
 
 -- The least is at most c for each place, where no cost exceeds c.
 pub least-bound : (C : Code) (m : Costs) (c : ℕ) → ((i : ℕ) (b : Bool) → m i b ≤ c) → (p : List Bool) → least C m p ≤ C .places * c
 unfolding least total
 least-bound C m c h p =
-    let a = lowest-at (C .size - length p) (λ t. total C m (p ++ t)) in
+    let a = minimum-at (C .size - length p) (λ t. total C m (p ++ t)) in
     rw (← (a .2), ← (sum-const (C .places) c)) (sum-le (C .places) (λ i. h i (C .word (p ++ a .0) i)))
 
 -- ---- the best score in the paper's words

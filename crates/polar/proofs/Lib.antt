@@ -1,4 +1,4 @@
-pub mod Lowest
+pub mod Minima
 pub mod Least
 pub mod Layer
 pub mod Values
@@ -12,4 +12,4 @@ pub mod Pigeon
 pub mod Window
 pub mod Fold
 pub mod Folded
-pub mod Profile
+pub mod Distance

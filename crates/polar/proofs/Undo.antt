@@ -11,7 +11,7 @@ use Rattle.base.specs.Bit.{bit, tabulate, same}
 use Rattle.base.proofs.List.{length-tabulate, tabulate-at, tabulate-cong, tabulate-append, same-bits, same-eq, same-self, length-find, find-only}
 use Rattle.polar.specs.Code.{Code, Onto, UndoneBy, symbolsIn}
 use Rattle.polar.specs.Stages.{rows, column, staged}
-use Rattle.polar.proofs.Lowest.{quot, rest}
+use Rattle.polar.proofs.Minima.{quot, rest}
 use Rattle.polar.proofs.Layer.{length-rows, pos-right}
 
 -- Entry r of a column: the bit of row r.

@@ -10,7 +10,7 @@ use lib.ListN.{length, take, drop, length-append}
 use lib.IntN.{ℤ, pos, negsuc, subℕ}
 use Rattle.polar.specs.Code.{Code, Costs, pay, sum, total, least, score, Onto}
 use Rattle.polar.specs.Stages.{rows, column, staged, block, pairs, soft}
-use Rattle.polar.proofs.Lowest.{lowest-cong, lowest-shift, sum-cong, sum-add}
+use Rattle.polar.proofs.Minima.{minimum-cong, minimum-shift, sum-cong, sum-add}
 use Rattle.polar.proofs.Least.{score-least, least-free, least-step, least-bound}
 use Rattle.polar.proofs.Layer.{Parted, parted, layer}
 
@@ -48,9 +48,9 @@ parts c b = go (decLt (c true) (c false)) b
 pub least-values : (C : Code) (m : Costs) (p : List Bool) → least C m p ≡ sum (C .places) (λ i. common (m i)) + least C (values m) p
 unfolding least total
 least-values C m p =
-    lowest-cong _ (λ t _. sum-cong (C .places) (λ i _. parts (m i) (C .word (p ++ t) i))
+    minimum-cong _ (λ t _. sum-cong (C .places) (λ i _. parts (m i) (C .word (p ++ t) i))
     ∙ sum-add (C .places) (λ i. common (m i)) (λ i. values m i (C .word (p ++ t) i)))
-    ∙ lowest-shift (sum (C .places) (λ i. common (m i))) _ (λ t. total C (values m) (p ++ t))
+    ∙ minimum-shift (sum (C .places) (λ i. common (m i))) _ (λ t. total C (values m) (p ++ t))
 
 sub-shift : (c a b : ℕ) → subℕ (c + a) (c + b) ≡ subℕ a b
 sub-shift c a b = go (decLt a b)

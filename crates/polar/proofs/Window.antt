@@ -10,11 +10,11 @@ use lib.ListN.{length, getD, take, drop, length-append, length-take, length-map,
 use lib.Seq.{take-at, drop-at}
 use Rattle.base.specs.Bit.{_⊕_, bit}
 use Rattle.base.proofs.Bool.{⊕-false}
-use Rattle.polar.specs.Code.{Code, Costs, sum, total, lowest, least}
+use Rattle.polar.specs.Code.{Code, Costs, sum, total, minimum, least}
 use Rattle.base.proofs.List.{same-bits}
 use Rattle.polar.specs.Relation.{Relation, sumOf, symbols}
 use Rattle.polar.specs.Window.{reach, height, readAt, IsWindow, pathOf}
-use Rattle.polar.proofs.Lowest.{lowest-le, lowest-at, sum-cong}
+use Rattle.polar.proofs.Minima.{minimum-le, minimum-at, sum-cong}
 use Rattle.polar.proofs.Least.{least-le, least-at}
 use Rattle.polar.proofs.Relation.{within, allWithin, length-symbols, Solves, solvesTest, solves-by, solved-bit, solved-symbols}
 use Rattle.polar.proofs.Pigeon.{pigeon}
@@ -198,14 +198,14 @@ module _ (C D : Code) (n : ℕ) (rs : List Relation) (sizeC : C .size ≡ n) (si
 
   -- The least after the symbols us is the least over the bits at the window's places of the least after their path.
   pub window-least : (window : List ℕ) (sol : List Relation) → Windowed (take i rs) window sol → (us : List Bool) → length us ≡ i
-      → least C m us ≡ lowest (length window) (λ x. least D m (pathOf sol us x))
+      → least C m us ≡ minimum (length window) (λ x. least D m (pathOf sol us x))
   window-least window sol k us lu =
       let f : List Bool → ℕ = λ x. least D m (pathOf sol us x) in
-      let a = lowest-at (length window) f in
+      let a = minimum-at (length window) f in
       let p = least-path us lu in
       let x = readAt window (p .0) in
       let up : least C m us ≤ f (a .0) =
       least-below us (pathOf sol us (a .0)) (path-length (take i rs) window sol k us (a .0))
       (path-symbols (take i rs) window sol k us (a .0) (lu ∙ sym length-first) (a .1)) in
       let down : f x ≤ least C m us = rw (path-read (take i rs) window sol k us (p .0) (p .1) (p .2)) (p .3) in
-      omega (arith, a .2, lowest-le x f, ap (λ n. lowest n f) (length-read window (p .0)))
+      omega (arith, a .2, minimum-le x f, ap (λ n. minimum n f) (length-read window (p .0)))

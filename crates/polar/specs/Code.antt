@@ -39,13 +39,13 @@ unfoldable pub total : Code → Costs → List Bool → ℕ
 total C m u = sum (C .places) (λ i. m i (C .word u i))
 
 -- The least value of f over all lists of n bits.
-unfoldable pub lowest : ℕ → (List Bool → ℕ) → ℕ
-lowest zero f = f []
-lowest (suc n) f = min (lowest n (λ t. f (false ∷ t))) (lowest n (λ t. f (true ∷ t)))
+unfoldable pub minimum : ℕ → (List Bool → ℕ) → ℕ
+minimum zero f = f []
+minimum (suc n) f = min (minimum n (λ t. f (false ∷ t))) (minimum n (λ t. f (true ∷ t)))
 
 -- The least total of the words that agree with p: of all words whose symbols begin with p. The paper's penalty.
 unfoldable pub least : Code → Costs → List Bool → ℕ
-least C m p = lowest (C .size - length p) (λ t. total C m (p ++ t))
+least C m p = minimum (C .size - length p) (λ t. total C m (p ++ t))
 
 -- The score of a word: minus the total paid.
 abbrev pub wordScore : Code → Costs → List Bool → ℤ

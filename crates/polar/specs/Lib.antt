@@ -6,4 +6,4 @@ pub mod Stages
 pub mod Relation
 pub mod Window
 pub mod Fold
-pub mod Profile
+pub mod Distance

@@ -13,8 +13,8 @@ use lib.Seq.{take-suc, length-take-le, getD-set-same, getD-set-other, ext-getD}
 use mir.Facts.{toZ-ofZ}
 use mir.Syntax.{w16, w32}
 use mir.Val.{SFits, toZ, ofZ, boolByte}
-use Rattle.base.specs.Bit.{bit}
-use Rattle.bits.specs.Packed.{bits, digit}
+use Rattle.base.specs.Bit.{bit, digit}
+use Rattle.bits.specs.Packed.{bits}
 use Rattle.bits.proofs.Packed.{length-bits}
 use Rattle.polar.specs.Code.{Costs, pay, score}
 use Rattle.polar.specs.Follow.{scores}

@@ -9,7 +9,8 @@ use lib.ListN.{length, take, replicate, length-append, length-replicate}
 use lib.Pow.{pow-add, pow-mono, shr-lt}
 use lib.Seq.{take-at}
 use mir.Val.{boolByte}
-use Rattle.bits.specs.Packed.{bits, digit, number}
+use Rattle.base.specs.Bit.{digit}
+use Rattle.bits.specs.Packed.{bits, number}
 use Rattle.bits.proofs.Packed.{length-bits, bits-split, number-lt, number-append, number-zeros, number-bits-fit, bits-number}
 use Rattle.windows.specs.Paths.{Choice}
 

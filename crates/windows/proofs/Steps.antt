@@ -8,8 +8,8 @@ use native.Mathlib.Omega.{arith}
 use lib.IntN.{ℤ, pos, negℤ, natAbs, _-ℤ_}
 use lib.ListN.{length, take, getD, replicate, length-append, length-replicate}
 use lib.Seq.{take-all}
-use Rattle.base.specs.Bit.{_⊕_, bit}
-use Rattle.bits.specs.Packed.{bits, number, digit}
+use Rattle.base.specs.Bit.{_⊕_, bit, digit}
+use Rattle.bits.specs.Packed.{bits, number}
 use Rattle.bits.proofs.Packed.{length-bits, bits-number}
 use Rattle.polar.specs.Code.{Code, Costs, least, bestScore, score}
 use Rattle.polar.specs.Kernel.{arikan, matrix}

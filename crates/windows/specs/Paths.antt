@@ -5,8 +5,8 @@ use mathlib.Core.List.{List, [], _∷_, _++_}
 use Prim.Native.Nat.{ℕ, _+_, _-_, _*_, _/_, _%_, _^_, _<_}
 use lib.ListN.{length, take, getD, replicate}
 use lib.IntN.{ℤ, pos, _-ℤ_}
-use Rattle.base.specs.Bit.{_⊕_, bit}
-use Rattle.bits.specs.Packed.{bits, number, digit}
+use Rattle.base.specs.Bit.{_⊕_, bit, digit}
+use Rattle.bits.specs.Packed.{bits, number}
 use Rattle.polar.specs.Code.{Costs, bestScore}
 use Rattle.polar.specs.Kernel.{arikan, matrix}
 use Rattle.polar.specs.Window.{pathOf}

@@ -12,46 +12,35 @@ use Rattle.grid.proofs.rows_of.Statement.{statement}
 use Rattle.grid.proofs.rows_of.Tie as tie
 
 abbrev Inv-loop : tie.InvT-loop
-Inv-loop bytes out₀ r₀ out r = (r ≤ 16) × (length out ≡ 16) × (0 < r → (i : ℕ) → getD bytes i 0 < 256) × (out ≡ filled (rowOf bytes) r (replicate 16 0))
+Inv-loop bytes out₀ r₀ out r = (r ≤ 16) × (length out ≡ 16) × (out ≡ filled (rowOf bytes) r (replicate 16 0))
 
 abbrev μ-loop : tie.MeasureT-loop
 μ-loop bytes out₀ r₀ out r = 16 - r
 
 loop-holds : tie.Need-loop-holds Inv-loop μ-loop
 unfolding tabulate
-loop-holds c = (search needs, search needs, (λ l. absurd (omega arith)), refl)
+loop-holds c = (search needs, search needs, refl)
+
+mul-row-of : tie.Need-mul-row-of Inv-loop μ-loop
+mul-row-of c = search needs
+
+shared-slice-read-row-of : tie.Need-shared-slice-read-row-of Inv-loop μ-loop
+shared-slice-read-row-of c = search needs
+
+mul-row-of-2 : tie.Need-mul-row-of-2 Inv-loop μ-loop
+mul-row-of-2 c = search needs
+
+add-row-of : tie.Need-add-row-of Inv-loop μ-loop
+add-row-of c = search needs
+
+shared-slice-read-row-of-2 : tie.Need-shared-slice-read-row-of-2 Inv-loop μ-loop
+shared-slice-read-row-of-2 c = search needs
+
+row-of-requires : tie.Need-row-of-requires Inv-loop μ-loop
+row-of-requires c κs = search needs
 
 mul-out : tie.Need-mul-out Inv-loop μ-loop
 mul-out c = search needs
-
-shared-slice-read-out : tie.Need-shared-slice-read-out Inv-loop μ-loop
-shared-slice-read-out c = search needs
-
-cast-out : tie.Need-cast-out Inv-loop μ-loop
-cast-out c = omega (arith, c .shared-slice-known .given (2 * c .before .before .loop .r) .fits)
-
-mul-out-2 : tie.Need-mul-out-2 Inv-loop μ-loop
-mul-out-2 c = omega (arith, c .shared-slice-known .given (2 * c .before .before .loop .r) .fits)
-
-mul-out-3 : tie.Need-mul-out-3 Inv-loop μ-loop
-mul-out-3 c = search needs
-
-add-out : tie.Need-add-out Inv-loop μ-loop
-add-out c = search needs
-
-shared-slice-read-out-2 : tie.Need-shared-slice-read-out-2 Inv-loop μ-loop
-shared-slice-read-out-2 c = search needs
-
-cast-out-2 : tie.Need-cast-out-2 Inv-loop μ-loop
-cast-out-2 c = omega (arith, c .shared-slice-known2 .given (2 * c .before .before .before .loop .r + 1) .fits)
-
-add-out-2 : tie.Need-add-out-2 Inv-loop μ-loop
-add-out-2 c =
-    let r = c .before .before .before .loop .r in
-    omega (arith, c .shared-slice-known2 .given (2 * r) .fits, c .shared-slice-known2 .given (2 * r + 1) .fits)
-
-mul-out-4 : tie.Need-mul-out-4 Inv-loop μ-loop
-mul-out-4 c = search needs
 
 array-write-out : tie.Need-array-write-out Inv-loop μ-loop
 array-write-out c = search needs
@@ -64,21 +53,21 @@ loop-less c = search needs
 
 loop-again : tie.Need-loop-again Inv-loop μ-loop
 loop-again c =
-    let a = c .before .before .before .before .args in
-    let l = c .before .before .before .loop in (
+    let a = c .before .before .before .before .before .before .args in
+    let l = c .before .before .before .before .loop in (
       search needs,
       search needs,
-      (λ _ i. c .shared-slice-known2 .given i .fits),
-      ap (λ o. set o (l .r) (rowOf (a .bytes .now) (l .r))) (l .inv .3) ∙ fill-next (rowOf (a .bytes .now)) (l .r) (replicate 16 0) _ (search needs) refl,
+      ap (λ o. set o (l .r) (c .row-of .result)) (l .inv .2)
+          ∙ fill-next (rowOf (a .bytes .now)) (l .r) (replicate 16 0) _ (search needs) (c .row-of .ensures),
     )
 
 returns : tie.Need-returns Inv-loop μ-loop
 returns c =
-    let a = c .before .before .args in
+    let a = c .before .before .before .args in
     let l = c .before .loop in
     let e : l .r ≡ 16 = search needs in
-    ap rowsBits (l .inv .3 ∙ ap (λ n. filled (rowOf (a .bytes .now)) n (replicate 16 0)) e ∙ fill-all (rowOf (a .bytes .now)) 16 (replicate 16 0) refl)
-    ∙ rows-made (a .bytes .now) (c .before .before .pre) (λ i _. l .inv .2 (omega arith) i)
+    ap rowsBits (l .inv .2 ∙ ap (λ n. filled (rowOf (a .bytes .now)) n (replicate 16 0)) e ∙ fill-all (rowOf (a .bytes .now)) 16 (replicate 16 0) refl)
+    ∙ rows-made (a .bytes .now) (c .before .before .before .pre) (λ i _. c .before .before .shared-slice-known .given i .fits)
 
 pub rows-of-spec : {M : Type 1} → statement M
 rows-of-spec =
@@ -87,16 +76,13 @@ rows-of-spec =
     Inv-loop
     μ-loop
     loop-holds
+    mul-row-of
+    shared-slice-read-row-of
+    mul-row-of-2
+    add-row-of
+    shared-slice-read-row-of-2
+    row-of-requires
     mul-out
-    shared-slice-read-out
-    cast-out
-    mul-out-2
-    mul-out-3
-    add-out
-    shared-slice-read-out-2
-    cast-out-2
-    add-out-2
-    mul-out-4
     array-write-out
     add-r
     loop-less

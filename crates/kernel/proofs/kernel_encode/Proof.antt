@@ -4,7 +4,7 @@ use borrow.Author.Needs.{needs}
 use borrow.Author.Tests.{not-true, not-false}
 use Rattle.answer.specs.Verdict.{word}
 use Rattle.kernel.specs.Rows.{rowSum}
-use Rattle.kernel.specs.Jobs.{encoded}
+use Rattle.kernel.specs.Jobs.{encodedWord}
 use Rattle.kernel.proofs.Table.{encoded-rows}
 use Rattle.kernel.proofs.Checks.{kernel-lt, kernel-refused, kernel-passed}
 use Rattle.kernel.proofs.kernel_encode.Statement.{statement}
@@ -28,7 +28,7 @@ returns-2 c =
     let a = c .before .before .before .before .args in
     let e = sym (c .before .before .before .is-kernel .ensures) ∙ not-false _ (c .before .before .if1 .left) in
     ap word (c .row-sum .ensures ∙ ap (λ t. rowSum t (a .symbols)) (c .before .kernel-rows .ensures) ∙ encoded-rows (a .kernel) (a .symbols) (kernel-lt (a .kernel) e))
-    ∙ kernel-passed (a .kernel) (word (encoded (a .kernel) (a .symbols))) e
+    ∙ kernel-passed (a .kernel) (word (encodedWord (a .kernel) (a .symbols))) e
 
 pub kernel-encode-spec : {M : Type 1} → statement M
 kernel-encode-spec = tie.close (tie.spec is-kernel-requires returns kernel-rows-requires row-sum-requires returns-2)

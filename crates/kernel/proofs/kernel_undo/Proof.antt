@@ -4,7 +4,7 @@ use borrow.Author.Needs.{needs}
 use borrow.Author.Tests.{not-true, not-false}
 use Rattle.answer.specs.Verdict.{word}
 use Rattle.kernel.specs.Rows.{rowSum}
-use Rattle.kernel.specs.Jobs.{undone}
+use Rattle.kernel.specs.Jobs.{undoneSymbols}
 use Rattle.kernel.proofs.Table.{undone-rows}
 use Rattle.kernel.proofs.Checks.{kernel-lt, kernel-refused, kernel-passed}
 use Rattle.kernel.proofs.kernel_undo.Statement.{statement}
@@ -28,7 +28,7 @@ returns-2 c =
     let a = c .before .before .before .before .args in
     let e = sym (c .before .before .before .is-kernel .ensures) ∙ not-false _ (c .before .before .if1 .left) in
     ap word (c .row-sum .ensures ∙ ap (λ t. rowSum t (a .word)) (c .before .inverse-rows .ensures) ∙ undone-rows (a .kernel) (a .word) (kernel-lt (a .kernel) e))
-    ∙ kernel-passed (a .kernel) (word (undone (a .kernel) (a .word))) e
+    ∙ kernel-passed (a .kernel) (word (undoneSymbols (a .kernel) (a .word))) e
 
 pub kernel-undo-spec : {M : Type 1} → statement M
 kernel-undo-spec = tie.close (tie.spec is-kernel-requires returns inverse-rows-requires row-sum-requires returns-2)

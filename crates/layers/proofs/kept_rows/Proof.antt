@@ -5,9 +5,9 @@ use mathlib.Core.List.{List, []}
 use Prim.Native.Nat.{ℕ, _-_, _≤_, _<_}
 use native.Mathlib.Omega.{arith}
 use lib.ListN.{length, getD}
-use Rattle.base.specs.Bit.{bit}
+use Rattle.base.specs.Bit.{bit, digit}
 use Rattle.base.proofs.List.{each-next}
-use Rattle.bits.specs.Packed.{bits, digit}
+use Rattle.bits.specs.Packed.{bits}
 use Rattle.windows.proofs.Following.{byte-digit, byte-small}
 use borrow.Author.Needs.{needs}
 use Rattle.layers.proofs.kept_rows.Statement.{statement}

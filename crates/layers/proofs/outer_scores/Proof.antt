@@ -5,9 +5,9 @@ use mathlib.Core.List.{List, []}
 use Prim.Native.Nat.{ℕ, _-_, _≤_, _<_}
 use native.Mathlib.Omega.{arith}
 use lib.ListN.{length, getD}
-use Rattle.base.specs.Bit.{bit}
+use Rattle.base.specs.Bit.{bit, digit}
 use Rattle.base.proofs.List.{each-next}
-use Rattle.bits.specs.Packed.{bits, digit}
+use Rattle.bits.specs.Packed.{bits}
 use lib.IntN.{ℤ, pos}
 use mir.Facts.{toZ-ofZ}
 use Rattle.windows.specs.Paths.{Leads}

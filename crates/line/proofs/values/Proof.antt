@@ -6,7 +6,7 @@ use lib.IntN.{pos}
 use lib.ListN.{length, getD}
 use mir.Facts.{toZ-ofZ}
 use Rattle.base.proofs.List.{each-next}
-use Rattle.line.specs.Line.{valueOf}
+use Rattle.line.specs.Line.{signedByte}
 use Rattle.line.proofs.Complement.{values-are}
 use borrow.Author.Needs.{needs}
 use Rattle.line.proofs.values.Statement.{statement}
@@ -14,7 +14,7 @@ use Rattle.line.proofs.values.Tie as tie
 use Rattle.line.proofs.value.Reads as value-reads
 
 abbrev Inv-loop : tie.InvT-loop
-Inv-loop bytes out₀ i₀ out i = (i ≤ 256) × (length out ≡ 256) × ((j : ℕ) → j < i → getD out j (pos 0) ≡ valueOf (getD bytes j 0))
+Inv-loop bytes out₀ i₀ out i = (i ≤ 256) × (length out ≡ 256) × ((j : ℕ) → j < i → getD out j (pos 0) ≡ signedByte (getD bytes j 0))
 
 abbrev μ-loop : tie.MeasureT-loop
 μ-loop bytes out₀ i₀ out i = 256 - i
@@ -43,7 +43,7 @@ loop-again c =
     let l = c .before .before .before .loop in (
       search needs,
       search needs,
-      each-next (λ j x. x ≡ valueOf (getD bytes j 0)) (l .out) (l .i) (pos 0) _ (search needs) (l .inv .2) (toZ-ofZ (record { sfits = c .value .ok }) ∙ c .value .ensures),
+      each-next (λ j x. x ≡ signedByte (getD bytes j 0)) (l .out) (l .i) (pos 0) _ (search needs) (l .inv .2) (toZ-ofZ (record { sfits = c .value .ok }) ∙ c .value .ensures),
     )
 
 returns : tie.Need-returns Inv-loop μ-loop

@@ -157,7 +157,7 @@ loop-again c =
     let rm = room (record { before = c .before; if1 = w .0 }) in (
       search needs,
       omega arith,
-      ap length (w .1) ∙ length-set (l .payload) (l .j) z ∙ inv .2,
+      ap length (w .1) ∙ length-set (l .payload) (l .j) _ ∙ inv .2,
       omega arith,
       w .1 ∙ ap (λ p. set p (l .j) z) (inv .4) ∙ fill-next (byteAt g) (l .j) (a .payload .now) z (omega arith) (st .0) ∙ ap (λ n. f n (a .payload .now)) (sym (w .2)),
       ap (λ n. bits n x ++ r) (w .3) ∙ st .1 ∙ ap (λ n. drop (8 * n) g) (sym (w .2)),

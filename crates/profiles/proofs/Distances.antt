@@ -1,4 +1,4 @@
--- The table of profile numbers holds, by one computed test over the three kernels. Assumes nothing.
+-- The table of partial distances holds, by one computed test over the three kernels. Assumes nothing.
 use mathlib.Core.Path.{_≡_, refl, _∙_}
 use mathlib.Core.Bool.{Bool, true, false}
 use Prim.Native.Nat.{ℕ, _<_}
@@ -12,23 +12,23 @@ use Rattle.bits.specs.Packed.{bits}
 use Rattle.polar.specs.Kernel.{arikan}
 use Rattle.polar.specs.Relation.{sumOf, symbols}
 use Rattle.polar.specs.Fold.{folded, blocks}
-use Rattle.polar.specs.Profile.{weight, profile}
+use Rattle.polar.specs.Distance.{weight, partialDistance}
 use Rattle.folds.specs.Rows.{leastTo}
 use Rattle.kernel.specs.Kernels.{kernelCode}
-use Rattle.kernel.specs.Profiles.{profileTable}
+use Rattle.kernel.specs.Distances.{distanceTable}
 use Rattle.windows.specs.Windows.{windows, solutions}
 use Rattle.profiles.proofs.Computed.{pathBy, leastBy, least-by}
 
 unfoldable profileTest : ℕ → ℕ → Bool
-profileTest k s = eqb (leastBy k weight (replicate s false) true) (getD (profileTable k) s 0)
+profileTest k s = eqb (leastBy k weight (replicate s false) true) (getD (distanceTable k) s 0)
 
 tested : every 3 (λ k. every 16 (profileTest k)) ≡ true
 unfolding profileTest leastBy pathBy leastTo windows solutions every parity tabulate bits symbols sumOf folded blocks arikan
 tested = refl
 
--- The table has the profile numbers of the three kernels.
-pub profile-table : (k s : ℕ) → k < 3 → s < 16 → profile (kernelCode k) s ≡ getD (profileTable k) s 0
-unfolding profile profileTest
-profile-table k s lk ls =
+-- The table has the partial distances of the three kernels.
+pub distance-table : (k s : ℕ) → k < 3 → s < 16 → partialDistance (kernelCode k) s ≡ getD (distanceTable k) s 0
+unfolding partialDistance profileTest
+distance-table k s lk ls =
     least-by k lk weight (replicate s false) (omega (arith, length-replicate s false)) true
     ∙ eqb-true _ _ (every-at 16 (profileTest k) (every-at 3 (λ k. every 16 (profileTest k)) tested k lk) s ls)

@@ -1,4 +1,4 @@
--- Laws of profile numbers: the words they count, and what following gives where all values are 1 or all are 0. Assumes nothing.
+-- Laws of partial distances: the words they count, and what following gives where all values are 1 or all are 0. Assumes nothing.
 use mathlib.Core.Path.{_≡_, refl, sym, ap, ap₂, _∙_}
 use mathlib.Core.Bool.{Bool, true, false, _&&_}
 use mathlib.Core.List.{List, [], _∷_, _++_}
@@ -9,14 +9,14 @@ use borrow.Author.Tests.{le-ltb}
 use lib.ListN.{length, take, replicate, length-append, length-replicate, getD-replicate, replicate-append-replicate, List·getD-append}
 use lib.Seq.{getD-append-add}
 use lib.IntN.{ℤ, pos, subℕ}
-use Rattle.base.specs.Bit.{_⊕_, bit, parity, tabulate}
+use Rattle.base.specs.Bit.{_⊕_, bit, digit, parity, tabulate}
 use Rattle.base.proofs.Bool.{parity-cong, parity-append, parity-false}
 use Rattle.base.proofs.List.{tabulate-cong}
 use Rattle.polar.specs.Code.{Code, pay, channel, total, least, score}
 use Rattle.polar.specs.Follow.{scores}
 use Rattle.polar.specs.Kernel.{matrix}
-use Rattle.polar.specs.Profile.{ones, weight, profile, Zero}
-use Rattle.polar.proofs.Lowest.{sum-cong, sum-zero}
+use Rattle.polar.specs.Distance.{weight, partialDistance, Zero}
+use Rattle.polar.proofs.Minima.{sum-cong, sum-zero}
 use Rattle.polar.proofs.Least.{least-le, least-cong, least-bound, score-least}
 
 -- ---- the words that are counted
@@ -62,16 +62,16 @@ least-zeros C z i l =
     let e : replicate i false ++ t ≡ replicate (C .size) false = replicate-append-replicate i (C .size - i) false ∙ ap (λ k. replicate k false) all in
     let h : least C weight (replicate i false) ≤ total C weight (replicate i false ++ t) =
     least-le C weight (replicate i false) t (ap length e ∙ length-replicate (C .size) false) in
-    let none : total C weight (replicate i false ++ t) ≡ 0 = ap (total C weight) e ∙ sum-cong (C .places) (λ j lj. ap ones (z j lj)) ∙ sum-zero (C .places) in
+    let none : total C weight (replicate i false ++ t) ≡ 0 = ap (total C weight) e ∙ sum-cong (C .places) (λ j lj. ap digit (z j lj)) ∙ sum-zero (C .places) in
     omega arith
 
 sub-none : (a : ℕ) → subℕ a 0 ≡ pos a
 sub-none a = rw (le-ltb a 0 (omega arith), sub-zero)
 
--- Following with all values 1 and all symbols 0: the score at phase i is the profile number of row i.
-pub score-profile : (C : Code) → Zero C → (i : ℕ) → i < C .size → score C (channel (replicate (C .places) (pos 1))) (replicate i false) ≡ pos (profile C i)
-unfolding profile
-score-profile C z i l =
+-- Following with all values 1 and all symbols 0: the score at phase i is the partial distance of row i.
+pub score-distance : (C : Code) → Zero C → (i : ℕ) → i < C .size → score C (channel (replicate (C .places) (pos 1))) (replicate i false) ≡ pos (partialDistance C i)
+unfolding partialDistance
+score-distance C z i l =
     let m = channel (replicate (C .places) (pos 1)) in
     let p = replicate i false in
     let next : p ++ (false ∷ []) ≡ replicate (i + 1) false = replicate-append-replicate i 1 false in
@@ -85,14 +85,14 @@ take-zeros zero n l = refl
 take-zeros (suc i) zero l = absurd (omega arith)
 take-zeros (suc i) (suc n) l = ap (λ (t : List Bool). false ∷ t) (take-zeros i n (omega arith))
 
--- So the scores of all phases are the profile.
-pub scores-profile : (C : Code) → Zero C
-    → scores C (channel (replicate (C .places) (pos 1))) (replicate (C .size) false) ≡ tabulate (C .size) (λ i. pos (profile C i))
+-- So the scores of all phases are the partial distances.
+pub scores-distance : (C : Code) → Zero C
+    → scores C (channel (replicate (C .places) (pos 1))) (replicate (C .size) false) ≡ tabulate (C .size) (λ i. pos (partialDistance C i))
 unfolding scores
-scores-profile C z =
+scores-distance C z =
     let m = channel (replicate (C .places) (pos 1)) in
     ap (λ n. tabulate n (λ i. score C m (take i (replicate (C .size) false)))) (length-replicate (C .size) false)
-    ∙ tabulate-cong (C .size) (λ i l. ap (score C m) (take-zeros i (C .size) (omega arith)) ∙ score-profile C z i l)
+    ∙ tabulate-cong (C .size) (λ i l. ap (score C m) (take-zeros i (C .size) (omega arith)) ∙ score-distance C z i l)
 
 -- ---- all values 0
 

@@ -7,40 +7,40 @@ use native.Mathlib.Nat.{suc-add, zero-add, le-refl, zero-mul, suc-mul, mul-zero,
 use native.Mathlib.Decide.{decLe}
 use native.Mathlib.Omega.{arith}
 use lib.ListN.{length}
-use Rattle.polar.specs.Code.{lowest, sum}
+use Rattle.polar.specs.Code.{minimum, sum}
 
 -- None of the lists has less.
-pub lowest-le : (t : List Bool) (f : List Bool → ℕ) → lowest (length t) f ≤ f t
-unfolding lowest
-lowest-le [] f = le-refl _
-lowest-le (false ∷ t) f = omega (arith, lowest-le t (λ s. f (false ∷ s)))
-lowest-le (true ∷ t) f = omega (arith, lowest-le t (λ s. f (true ∷ s)))
+pub minimum-le : (t : List Bool) (f : List Bool → ℕ) → minimum (length t) f ≤ f t
+unfolding minimum
+minimum-le [] f = le-refl _
+minimum-le (false ∷ t) f = omega (arith, minimum-le t (λ s. f (false ∷ s)))
+minimum-le (true ∷ t) f = omega (arith, minimum-le t (λ s. f (true ∷ s)))
 
 -- One of the lists has it.
 abbrev pub Attained : ℕ → (List Bool → ℕ) → Type 0
-Attained k f = (t : List Bool) × (length t ≡ k) × (f t ≡ lowest k f)
+Attained k f = (t : List Bool) × (length t ≡ k) × (f t ≡ minimum k f)
 
-pub lowest-at : (k : ℕ) (f : List Bool → ℕ) → Attained k f
-unfolding lowest
-lowest-at zero f = ([], refl, refl)
-lowest-at (suc k) f = pick (lowest-at k (λ t. f (false ∷ t))) (lowest-at k (λ t. f (true ∷ t))) (decLe _ _)
+pub minimum-at : (k : ℕ) (f : List Bool → ℕ) → Attained k f
+unfolding minimum
+minimum-at zero f = ([], refl, refl)
+minimum-at (suc k) f = pick (minimum-at k (λ t. f (false ∷ t))) (minimum-at k (λ t. f (true ∷ t))) (decLe _ _)
   where
     pick : Attained k (λ t. f (false ∷ t)) → Attained k (λ t. f (true ∷ t))
-        → Dec (lowest k (λ t. f (false ∷ t)) ≤ lowest k (λ t. f (true ∷ t))) → Attained (suc k) f
+        → Dec (minimum k (λ t. f (false ∷ t)) ≤ minimum k (λ t. f (true ∷ t))) → Attained (suc k) f
     pick a b (yes l) = (false ∷ a .0, ap suc (a .1), omega (arith, a .2))
     pick a b (no l) = (true ∷ b .0, ap suc (b .1), omega (arith, b .2))
 
 -- Only the lists of the length count.
-pub lowest-cong : (k : ℕ) {f g : List Bool → ℕ} → ((t : List Bool) → length t ≡ k → f t ≡ g t) → lowest k f ≡ lowest k g
-unfolding lowest
-lowest-cong zero h = h [] refl
-lowest-cong (suc k) h = ap₂ min (lowest-cong k (λ t e. h (false ∷ t) (ap suc e))) (lowest-cong k (λ t e. h (true ∷ t) (ap suc e)))
+pub minimum-cong : (k : ℕ) {f g : List Bool → ℕ} → ((t : List Bool) → length t ≡ k → f t ≡ g t) → minimum k f ≡ minimum k g
+unfolding minimum
+minimum-cong zero h = h [] refl
+minimum-cong (suc k) h = ap₂ min (minimum-cong k (λ t e. h (false ∷ t) (ap suc e))) (minimum-cong k (λ t e. h (true ∷ t) (ap suc e)))
 
 -- Over the first k bits, and then over the l others.
-pub lowest-append : (k l : ℕ) (f : List Bool → ℕ) → lowest (k + l) f ≡ lowest k (λ s. lowest l (λ t. f (s ++ t)))
-unfolding lowest
-lowest-append zero l f = rw zero-add
-lowest-append (suc k) l f = rw suc-add (ap₂ min (lowest-append k l (λ t. f (false ∷ t))) (lowest-append k l (λ t. f (true ∷ t))))
+pub minimum-append : (k l : ℕ) (f : List Bool → ℕ) → minimum (k + l) f ≡ minimum k (λ s. minimum l (λ t. f (s ++ t)))
+unfolding minimum
+minimum-append zero l f = rw zero-add
+minimum-append (suc k) l f = rw suc-add (ap₂ min (minimum-append k l (λ t. f (false ∷ t))) (minimum-append k l (λ t. f (true ∷ t))))
 
 pub sum-cong : (n : ℕ) {f g : ℕ → ℕ} → ((i : ℕ) → i < n → f i ≡ g i) → sum n f ≡ sum n g
 unfolding sum
@@ -85,10 +85,10 @@ pub rest : (w j t : ℕ) → t < w → (w * j + t) % w ≡ t
 rest w j t l = rw (mul-add-mod-self-left, mod-eq-of-lt l)
 
 -- A constant paid by all.
-pub lowest-shift : (c k : ℕ) (f : List Bool → ℕ) → lowest k (λ t. c + f t) ≡ c + lowest k f
-unfolding lowest
-lowest-shift c zero f = refl
-lowest-shift c (suc k) f = omega (arith, lowest-shift c k (λ t. f (false ∷ t)), lowest-shift c k (λ t. f (true ∷ t)))
+pub minimum-shift : (c k : ℕ) (f : List Bool → ℕ) → minimum k (λ t. c + f t) ≡ c + minimum k f
+unfolding minimum
+minimum-shift c zero f = refl
+minimum-shift c (suc k) f = omega (arith, minimum-shift c k (λ t. f (false ∷ t)), minimum-shift c k (λ t. f (true ∷ t)))
 
 pub sum-add : (n : ℕ) (f g : ℕ → ℕ) → sum n (λ i. f i + g i) ≡ sum n f + sum n g
 unfolding sum
