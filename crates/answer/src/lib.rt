@@ -17,25 +17,6 @@ pub enum Answer {
     FrozenOne(usize),
 }
 
-// Whether the job was accepted.
-pub fn accepted(a: Answer) -> bool
-    ensures { λ r. ⌜ r ≡ isAccepted (verdict a) ⌝ }
-{
-    match a {
-        Answer::Done => true,
-        Answer::Word(_) => true,
-        Answer::NoKernel => false,
-        Answer::WrongLength => false,
-        Answer::BadMask => false,
-        Answer::WrongPayload => false,
-        Answer::ShortOutput => false,
-        Answer::ValueOutOfRange(_) => false,
-        Answer::NotFinite(_) => false,
-        Answer::WrongSize => false,
-        Answer::FrozenOne(_) => false,
-    }
-}
-
 // The number of the condition that refused, 0 if accepted.
 pub fn number(a: Answer) -> u8
     ensures { λ r. ⌜ r ≡ numberOf (verdict a) ⌝ }
@@ -53,6 +34,13 @@ pub fn number(a: Answer) -> u8
         Answer::WrongSize => 8,
         Answer::FrozenOne(_) => 9,
     }
+}
+
+// Whether the job was accepted: no condition has its number.
+pub fn accepted(a: Answer) -> bool
+    ensures { λ r. ⌜ r ≡ isAccepted (verdict a) ⌝ }
+{
+    number(a) == 0
 }
 
 // The place that a refusal names, 0 where it names none.

@@ -1,4 +1,5 @@
--- The information order (the paper's house order), and the information mask that it gives. Assumes nothing.
+-- The information order, a reliability order of the phases (the paper's house order), and the information mask that it gives,
+-- the information set of p bytes (the paper's house mask). Assumes nothing.
 use mathlib.Core.Path.{_≡_}
 use mathlib.Core.Bool.{Bool, true, false, _||_}
 use mathlib.Core.List.{List, [], _∷_, map}

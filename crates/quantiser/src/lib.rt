@@ -14,7 +14,8 @@ ghost use Rattle.quantiser.specs.Marks.{markAt, offends, valueOf, pairOf
 ghost use Rattle.quantiser.specs.Jobs.{marksChecks, valuesFromMarks};
 use answer::Answer;
 
-// A heard mark's I and Q amplitudes, together as one symbol.
+// A heard mark's I and Q amplitudes together: one symbol of the modulation, as the paper names the form. It is not one of
+// the coded symbols u of a kernel or a frame.
 pub struct Symbol {
     pub i: f32,
     pub q: f32,

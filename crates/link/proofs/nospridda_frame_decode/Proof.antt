@@ -1,6 +1,6 @@
 -- `link::nospridda_frame_decode` meets its contract: it hands out the outcome of the job's answer. Assumes nothing.
 use borrow.Author.Needs.{needs}
-use Rattle.link.proofs.Handed.{handed-three}
+use Rattle.link.proofs.Outcomes.{handed-three}
 use Rattle.link.proofs.nospridda_frame_decode.Statement.{statement}
 use Rattle.link.proofs.nospridda_frame_decode.Tie as tie
 

@@ -1,6 +1,6 @@
 -- `link::nospridda_frame_encode` meets its contract: it hands out the outcome of the job's answer. Assumes nothing.
 use borrow.Author.Needs.{needs}
-use Rattle.link.proofs.Handed.{handed}
+use Rattle.link.proofs.Outcomes.{handed}
 use Rattle.link.proofs.nospridda_frame_encode.Statement.{statement}
 use Rattle.link.proofs.nospridda_frame_encode.Tie as tie
 

@@ -1,6 +1,6 @@
 -- `link::nospridda_values_from_marks` meets its contract: it hands out the outcome of the job's answer. Assumes nothing.
 use borrow.Author.Needs.{needs}
-use Rattle.link.proofs.Handed.{handed}
+use Rattle.link.proofs.Outcomes.{handed}
 use Rattle.link.proofs.nospridda_values_from_marks.Statement.{statement}
 use Rattle.link.proofs.nospridda_values_from_marks.Tie as tie
 
