@@ -17,7 +17,7 @@ use Rattle.folds.specs.Rows.{leastTo}
 use Rattle.kernel.specs.Kernels.{kernelCode}
 use Rattle.kernel.specs.Profiles.{profileTable}
 use Rattle.windows.specs.Windows.{windows, solutions}
-use Rattle.profiles.proofs.Computed.{pathBy, leastBy, least-by}
+use Rattle.cases.proofs.Computed.{pathBy, leastBy, least-by}
 
 unfoldable profileTest : ℕ → ℕ → Bool
 profileTest k s = eqb (leastBy k weight (replicate s false) true) (getD (profileTable k) s 0)
