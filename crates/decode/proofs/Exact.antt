@@ -7,7 +7,7 @@ use native.Mathlib.Omega.{arith}
 use borrow.Author.Tests.{not-false, eqb-true}
 use lib.Dec.{eqb}
 use lib.IntN.{ℤ, pos}
-use lib.ListN.{length, getD, take, drop, List·getD-append}
+use lib.ListN.{length, take, drop, List·getD-append}
 use Rattle.base.specs.Bit.{bit}
 use Rattle.base.proofs.Bool.{or-eq-false}
 use Rattle.bits.specs.Packed.{unpack, pack}
@@ -15,10 +15,10 @@ use Rattle.bits.specs.Payload.{ones, gather}
 use Rattle.bits.proofs.Packed.{length-unpack, length-pack, unpack-append, unpack-pack}
 use Rattle.bits.proofs.Payload.{length-gather}
 use Rattle.bits.proofs.Marked.{gather-at, ones-before, marked-phase}
-use Rattle.answer.specs.Verdict.{Verdict, done, isAccepted, settle, after}
+use Rattle.answer.specs.Verdict.{Verdict, done, isAccepted, after}
 use Rattle.answer.proofs.Settle.{none-of}
 use Rattle.answer.proofs.Written.{after-front, after-at, after-room, after-rest}
-use Rattle.mask.specs.Mask.{marked, badMask}
+use Rattle.mask.specs.Mask.{marked}
 use Rattle.mask.proofs.Mask.{bytes-marked, bytes-eighth}
 use Rattle.polar.specs.Code.{channel}
 use Rattle.polar.specs.Follow.{scores, penalties}
@@ -26,7 +26,7 @@ use Rattle.polar.proofs.Follow.{length-scores, length-penalties, length-decode}
 use Rattle.polar.proofs.Exact.{score-exact, penalty-exact, marked-sign, unmarked-zero}
 use Rattle.frame.specs.Frames.{frameCode}
 use Rattle.decode.specs.Jobs.{followChecks, frameFollow, decodeChecks, decided, frameDecode}
-use Rattle.decode.specs.Exact.{FrameExact, SignExact}
+use Rattle.decode.specs.Exact.{FrameExact, BySigns}
 
 -- What an accepted job leaves of the scores and penalties of 256 symbols is exact.
 frame-exact : (a b : ℕ) (values : List ℤ) (u : List Bool) → length u ≡ 256 → (v : Verdict) → v ≡ done → (scores₀ : List ℤ) (penalties₀ : List ℕ)
@@ -48,10 +48,10 @@ frame-exact a b values u e v ok scores₀ penalties₀ =
 
 -- Frame follow: for every pair, values, symbols and buffers, where the request is accepted, the scores and penalties that it leaves
 -- are exact for the given symbols at all phases.
-pub follow-exact : (a b : ℕ) (values : List ℤ) (symbols : List ℕ) (scores₀ : List ℤ) (penalties₀ : List ℕ)
+pub frame-follow-exact : (a b : ℕ) (values : List ℤ) (symbols : List ℕ) (scores₀ : List ℤ) (penalties₀ : List ℕ)
     → let r = frameFollow a b values symbols scores₀ penalties₀ in r .0 ≡ done → FrameExact a b values (unpack symbols) scores₀ (r .1) penalties₀ (r .2)
 unfolding frameFollow followChecks
-follow-exact a b values symbols scores₀ penalties₀ ok =
+frame-follow-exact a b values symbols scores₀ penalties₀ ok =
     let n = none-of (followChecks a b values (length symbols) (length scores₀) (length penalties₀)) done (ap isAccepted ok) in
     let h = or-eq-false (not (eqb (length values) 256)) (not (eqb (length symbols) 32)) (n .1 .0) in
     let long : length symbols ≡ 32 = eqb-true (length symbols) 32 (not-false _ (h .1)) in
@@ -68,11 +68,11 @@ payload-at l n e v ok old j h =
 
 -- Frame decode: for every pair, values, mask and buffers, where the request is accepted, there are 256 symbols, `decided`, for which the
 -- scores and penalties that it leaves are exact at all phases, and which go with the payload by the signs of these scores.
-pub decode-exact : (a b : ℕ) (values : List ℤ) (mask : List ℕ) (scores₀ : List ℤ) (penalties₀ payload₀ : List ℕ)
+pub frame-decode-exact : (a b : ℕ) (values : List ℤ) (mask : List ℕ) (scores₀ : List ℤ) (penalties₀ payload₀ : List ℕ)
     → let r = frameDecode a b values mask scores₀ penalties₀ payload₀ in r .0 ≡ done
-    → FrameExact a b values (decided a b values mask) scores₀ (r .1) penalties₀ (r .2) × SignExact mask (decided a b values mask) (r .1) payload₀ (r .3)
+    → FrameExact a b values (decided a b values mask) scores₀ (r .1) penalties₀ (r .2) × BySigns mask (decided a b values mask) (r .1) payload₀ (r .3)
 unfolding frameDecode decodeChecks decided marked
-decode-exact a b values mask scores₀ penalties₀ payload₀ ok =
+frame-decode-exact a b values mask scores₀ penalties₀ payload₀ ok =
     let C = frameCode a b in
     let m = channel values in
     let marks = unpack mask in

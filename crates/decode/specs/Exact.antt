@@ -28,7 +28,7 @@ pub record FrameExact (a b : ℕ) (values : List ℤ) (u : List Bool) (scores₀
 -- score i, and the payload has it as its bit number j, where j marked phases lie before i; at any other phase the symbol is 0.
 -- For a mask of k phases the payload has room for k bits, each of them is that of a marked phase, and what lies past its k/8 bytes
 -- stays: the buffer held payload₀ before.
-pub record SignExact (mask : List ℕ) (u : List Bool) (scores : List ℤ) (payload₀ payload : List ℕ) : Type 0 where
+pub record BySigns (mask : List ℕ) (u : List Bool) (scores : List ℤ) (payload₀ payload : List ℕ) : Type 0 where
   pub sign : (i : ℕ) → i < 256 → bit (unpack mask) i ≡ true → IsSign (getD scores i (pos 0)) (bit u i)
   pub held : (i : ℕ) → i < 256 → bit (unpack mask) i ≡ true → bit (unpack payload) (ones (take i (unpack mask))) ≡ bit u i
   pub frozen : (i : ℕ) → i < 256 → bit (unpack mask) i ≡ false → bit u i ≡ false

@@ -1,8 +1,7 @@
 -- Demand 3 for kernel follow, as one theorem about its definition. Assumes nothing.
 use mathlib.Core.Path.{_≡_, _∙_}
 use mathlib.Core.List.{List}
-use Prim.Native.Nat.{ℕ, _<_}
-use native.Mathlib.Omega.{arith}
+use Prim.Native.Nat.{ℕ}
 use lib.IntN.{ℤ, pos}
 use lib.ListN.{length}
 use Rattle.bits.specs.Packed.{bits}
@@ -15,13 +14,13 @@ use Rattle.polar.proofs.Follow.{length-scores}
 use Rattle.polar.proofs.Exact.{score-exact}
 use Rattle.kernel.specs.Kernels.{kernelCode}
 use Rattle.follow.specs.Jobs.{kernelFollow}
-use Rattle.follow.specs.Exact.{FollowExact}
+use Rattle.follow.specs.Exact.{KernelExact}
 
 -- For every kernel, values, symbols and buffer: where the request is accepted, the scores that it leaves are exact at all phases.
-pub follow-exact : (k : ℕ) (values : List ℤ) (symbols : ℕ) (out : List ℤ) → (kernelFollow k values symbols out) .0 ≡ done
-    → FollowExact k values symbols out ((kernelFollow k values symbols out) .1)
+pub kernel-follow-exact : (k : ℕ) (values : List ℤ) (symbols : ℕ) (out : List ℤ) → (kernelFollow k values symbols out) .0 ≡ done
+    → KernelExact k values symbols out ((kernelFollow k values symbols out) .1)
 unfolding kernelFollow
-follow-exact k values symbols out a =
+kernel-follow-exact k values symbols out a =
     let C = kernelCode k in
     let m = channel values in
     let u = bits 16 symbols in
