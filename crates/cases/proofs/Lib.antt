@@ -1,2 +1,4 @@
+pub mod Computed
+pub mod Distances
 pub mod Starred
 pub mod Constant

@@ -8,33 +8,35 @@ use borrow.Author.Tests.{eqb-true}
 use lib.Dec.{eqb}
 use lib.Ieee.{fin, binary32, fits}
 use lib.IntN.{ℤ, pos, negsuc}
-use lib.ListN.{getD, replicate}
+use lib.ListN.{length, getD, set, replicate}
 use Rattle.base.specs.Bit.{tabulate, parity, every}
 use Rattle.bits.specs.Packed.{bits, number, unpack, pack}
 use Rattle.bits.proofs.Packed.{length-bits, unpack-pack}
-use Rattle.answer.specs.Verdict.{word, done, isAccepted, settle}
+use Rattle.answer.specs.Verdict.{Verdict, word, done, refused, isAccepted, settle, after}
 use Rattle.polar.specs.Code.{channel}
+use Rattle.polar.specs.Follow.{scores}
 use Rattle.polar.specs.Kernel.{arikan}
 use Rattle.polar.specs.Relation.{unit, sumOf, symbols}
 use Rattle.polar.specs.Fold.{folded, blocks}
 use Rattle.folds.specs.Range.{firstOutside}
 use Rattle.folds.specs.Rows.{leastTo}
+use Rattle.kernel.specs.Kernels.{kernelCode}
 use Rattle.kernel.specs.Rows.{chosenSum, rowSum, table}
 use Rattle.kernel.specs.Jobs.{isKernel, encodedWord}
 use Rattle.kernel.proofs.Table.{encoded-rows}
 use Rattle.kernel.proofs.Checks.{kernel-lt, kernel-passed}
 use Rattle.order.specs.Order.{order, among, informationBits, markedPhases}
-use Rattle.order.specs.Jobs.{informationChecks}
+use Rattle.order.specs.Jobs.{informationChecks, informationMask}
 use Rattle.order.proofs.Accepted
 use Rattle.windows.specs.Windows.{windows, solutions}
-use Rattle.follow.specs.Jobs.{followChecks}
+use Rattle.follow.specs.Jobs.{followChecks, kernelFollow}
 use Rattle.quantiser.specs.Marks.{valueAt, notFinite, firstNotFinite, lowest}
 use Rattle.quantiser.specs.Jobs.{marksChecks}
 use Rattle.quantiser.proofs.Accepted as Quantised
 use Rattle.rounding.specs.Rounding.{rounded}
 use Rattle.follow.proofs.Accepted.{accepted, accepted-job}
-use Rattle.profiles.proofs.Computed.{pathBy, leastBy, scoresBy, scores-by}
-use Rattle.cases.specs.Cases.{Case, encoding, following, masking, quantising, Holds, starred, AllHold}
+use Rattle.cases.proofs.Computed.{pathBy, leastBy, scoresBy, scores-by}
+use Rattle.cases.specs.Cases.{Case, encoding, following, ending, valueRefused, masking, sizeRefused, quantising, Holds, starred, AllHold}
 
 -- Whether two scores are the same.
 unfoldable sameScore : ℤ → ℤ → Bool
@@ -66,17 +68,60 @@ list-eq f q (x ∷ s) (y ∷ t) e =
     let h = (and-eq-true-iff (f x y) (sameList f s t)) .0 e in
     ap₂ _∷_ (q x y (h .0)) (list-eq f q s t (h .1))
 
+-- Whether a verdict is the refusal of a condition at a place.
+unfoldable isRefusal : ℕ → ℕ → Verdict → Bool
+isRefusal n i done = false
+isRefusal n i (word w) = false
+isRefusal n i (refused n′ i′) = eqb n′ n && eqb i′ i
+
+refusal-eq : (n i : ℕ) (v : Verdict) → isRefusal n i v ≡ true → v ≡ refused n i
+unfolding isRefusal
+refusal-eq n i done t = absurd (false≢true t)
+refusal-eq n i (word w) t = absurd (false≢true t)
+refusal-eq n i (refused n′ i′) t =
+    let h = (and-eq-true-iff (eqb n′ n) (eqb i′ i)) .0 t in
+    ap₂ refused (eqb-true n′ n (h .0)) (eqb-true i′ i (h .1))
+
 -- What is computed of a case.
 unfoldable test : Case → Bool
 test (encoding k s w) = isKernel k && eqb (rowSum (getD table k []) (number (unit 16 s))) w
 test (following k value scores) =
     isAccepted (settle (followChecks k (replicate 16 value) 16) done) && sameList sameScore (scoresBy k (channel (replicate 16 value)) (bits 16 0)) scores
+test (ending k value score) =
+    isAccepted (settle (followChecks k (replicate 16 value) 16) done) && sameScore (getD (scoresBy k (channel (replicate 16 value)) (bits 16 0)) 15 (pos 0)) score
+test (valueRefused k i value n) = isRefusal n i (settle (followChecks k (set (replicate 16 (pos 0)) i value) 16) done)
 test (masking p phases) = isAccepted (settle (informationChecks p 32) done) && sameList eqb (markedPhases (informationBits p)) phases
-test (quantising m e value) =
-    let xs = replicate 256 (fin false m e) in
-    fits binary32 (fin false m e)
+test (sizeRefused p n) = isRefusal n 0 (settle (informationChecks p 32) done)
+test (quantising minus m e value) =
+    let xs = replicate 256 (fin minus m e) in
+    fits binary32 (fin minus m e)
     && isAccepted (settle (marksChecks xs (replicate 16 0) 256) done)
     && sameList sameScore (tabulate 256 (valueAt xs (replicate 16 0))) (replicate 256 value)
+
+-- Where kernel follow accepts sixteen equal values, it leaves the scores as computed.
+followed : (k : ℕ) (value : ℤ) → isAccepted (settle (followChecks k (replicate 16 value) 16) done) ≡ true
+    → kernelFollow k (replicate 16 value) 0 (replicate 16 (pos 0)) ≡ (done, scoresBy k (channel (replicate 16 value)) (bits 16 0))
+followed k value a =
+    let values = replicate 16 value in
+    let found = scoresBy k (channel values) (bits 16 0) in
+    let by = scores-by k ((accepted k values 16 a) .known) (channel values) (bits 16 0) (omega (arith, length-bits 16 0)) in
+    accepted-job k values 0 (replicate 16 (pos 0)) a (channel values) (λ j b l. refl) found found (sym by) (sym (append-nil found))
+
+-- A refused job answers its refusal and leaves its buffer.
+value-refused : (k i : ℕ) (value : ℤ) (n : ℕ) → isRefusal n i (settle (followChecks k (set (replicate 16 (pos 0)) i value) 16) done) ≡ true
+    → (out : List ℤ) → length out ≡ 16 → kernelFollow k (set (replicate 16 (pos 0)) i value) 0 out ≡ (refused n i, out)
+unfolding kernelFollow
+value-refused k i value n t out e =
+    let values = set (replicate 16 (pos 0)) i value in
+    ap (λ (v : Verdict). (v, after v out (scores (kernelCode k) (channel values) (bits 16 0))))
+    (ap (λ m. settle (followChecks k values m) done) e ∙ refusal-eq n i _ t)
+
+size-refused : (p n : ℕ) → isRefusal n 0 (settle (informationChecks p 32) done) ≡ true
+    → (out : List ℕ) → length out ≡ 32 → informationMask p out ≡ (refused n 0, out)
+unfolding informationMask
+size-refused p n t out e =
+    ap (λ (v : Verdict). (v, after v out (pack 32 (informationBits p))))
+    (ap (λ m. settle (informationChecks p m) done) e ∙ refusal-eq n 0 _ t)
 
 shown : (c : Case) → test c ≡ true → Holds c
 unfolding test
@@ -86,18 +131,22 @@ shown (encoding k s w) t =
     sym (kernel-passed k (word (encodedWord k u)) (h .0))
     ∙ ap word (sym (encoded-rows k u (kernel-lt k (h .0))) ∙ eqb-true (rowSum (getD table k []) u) w (h .1))
 shown (following k value scores) t =
-    let values = replicate 16 value in
-    let h = (and-eq-true-iff (isAccepted (settle (followChecks k values 16) done)) _) .0 t in
-    let by = scores-by k ((accepted k values 16 (h .0)) .known) (channel values) (bits 16 0) (omega (arith, length-bits 16 0)) in
-    accepted-job k values 0 (replicate 16 (pos 0)) (h .0) (channel values) (λ j b l. refl) scores scores (sym (by ∙ list-eq sameScore score-eq _ scores (h .1))) (sym (append-nil scores))
+    let h = (and-eq-true-iff (isAccepted (settle (followChecks k (replicate 16 value) 16) done)) _) .0 t in
+    followed k value (h .0) ∙ ap (λ (l : List ℤ). (done, l)) (list-eq sameScore score-eq _ scores (h .1))
+shown (ending k value score) t =
+    let h = (and-eq-true-iff (isAccepted (settle (followChecks k (replicate 16 value) 16) done)) _) .0 t in
+    let job = followed k value (h .0) in
+    (ap (λ r. r .0) job, ap (λ r. getD (r .1) 15 (pos 0)) job ∙ score-eq _ score (h .1))
+shown (valueRefused k i value n) t = λ out e. value-refused k i value n t out e
 shown (masking p phases) t =
     let h = (and-eq-true-iff (isAccepted (settle (informationChecks p 32) done)) _) .0 t in
     let job = Accepted.accepted-job p (replicate 32 0) (h .0) in
     let back : unpack (pack 32 (informationBits p) ++ []) ≡ informationBits p =
     ap unpack (append-nil (pack 32 (informationBits p))) ∙ unpack-pack 32 (informationBits p) (Accepted.length-information p) in
     (ap (λ r. r .0) job, ap (λ r. markedPhases (unpack (r .1))) job ∙ ap markedPhases back ∙ list-eq eqb eqb-true _ phases (h .1))
-shown (quantising m e value) t =
-    let x = fin false m e in
+shown (sizeRefused p n) t = λ out e. size-refused p n t out e
+shown (quantising minus m e value) t =
+    let x = fin minus m e in
     let xs = replicate 256 x in
     let h = (and-eq-true-iff (fits binary32 x && isAccepted (settle (marksChecks xs (replicate 16 0) 256) done)) _) .0 t in
     let g = (and-eq-true-iff (fits binary32 x) _) .0 (h .0) in
@@ -116,5 +165,5 @@ all-shown (c ∷ cs) t =
     (shown c (h .0), all-shown cs (h .1))
 
 pub starred-hold : AllHold starred
-unfolding tests test isKernel chosenSum bits number tabulate parity sameScore sameList followChecks firstOutside scoresBy leastBy pathBy leastTo windows solutions symbols sumOf folded blocks arikan every informationChecks informationBits markedPhases among order unpack marksChecks firstNotFinite notFinite lowest valueAt rounded fits
+unfolding tests test isRefusal isKernel chosenSum bits number tabulate parity sameScore sameList followChecks firstOutside scoresBy leastBy pathBy leastTo windows solutions symbols sumOf folded blocks arikan every informationChecks informationBits markedPhases among order unpack marksChecks firstNotFinite notFinite lowest valueAt rounded fits
 starred-hold = all-shown starred refl

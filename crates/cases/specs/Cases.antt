@@ -1,13 +1,14 @@
 -- The starred bench cases, as one table of what the definitions give. Assumes nothing.
 use mathlib.Core.Path.{_≡_}
-use mathlib.Core.List.{List, [], _∷_, map}
+use mathlib.Core.List.{List, [], _∷_, _++_, map}
 use Prim.Native.Nat.{ℕ}
-use mathlib.Core.Bool.{true, false}
+use mathlib.Core.Bool.{Bool, true, false}
 use lib.Ieee.{fin, binary32, fits}
 use lib.IntN.{ℤ, pos, negsuc}
-use lib.ListN.{replicate}
+use lib.ListN.{length, getD, set, replicate}
+use Rattle.base.specs.Bit.{tabulate}
 use Rattle.bits.specs.Packed.{number, unpack}
-use Rattle.answer.specs.Verdict.{word, done}
+use Rattle.answer.specs.Verdict.{word, done, refused}
 use Rattle.polar.specs.Relation.{unit}
 use Rattle.kernel.specs.Jobs.{kernelEncode}
 use Rattle.kernel.specs.Distances.{distanceTable}
@@ -20,25 +21,42 @@ use Rattle.quantiser.specs.Jobs.{valuesFromMarks}
 pub data Case : Type 0 where
   -- Kernel k, only symbol s set: the word w.
   encoding : (k s w : ℕ) → Case
-  -- Kernel k, all sixteen values the same, symbols 0: the sixteen scores.
+  -- Kernel k, all sixteen values the same, symbols 0: the sixteen scores,
   following : (k : ℕ) (value : ℤ) (scores : List ℤ) → Case
+  -- or only the last of them.
+  ending : (k : ℕ) (value score : ℤ) → Case
+  -- Kernel k, one value at place i, the others 0: refused by condition n at that place.
+  valueRefused : (k i : ℕ) (value : ℤ) (n : ℕ) → Case
   -- Information mask for p bytes of payload: the phases that it marks.
   masking : (p : ℕ) (phases : List ℕ) → Case
-  -- All 256 amplitudes the same, no mark blanked: all 256 values the same. The amplitude is m * 2 ^ e.
-  quantising : (m : ℕ) (e : ℤ) (value : ℤ) → Case
+  -- Information mask for p bytes: refused by condition n.
+  sizeRefused : (p n : ℕ) → Case
+  -- All 256 amplitudes the same, no mark blanked: all 256 values the same. The amplitude is m * 2 ^ e, or minus that.
+  quantising : (minus : Bool) (m : ℕ) (e : ℤ) (value : ℤ) → Case
 
--- What a case says.
+-- What a case says. A refused request leaves every buffer as it was.
 abbrev pub Holds : Case → Type 0
 Holds (encoding k s w) = kernelEncode k (number (unit 16 s)) ≡ word w
 Holds (following k value scores) = kernelFollow k (replicate 16 value) 0 (replicate 16 (pos 0)) ≡ (done, scores)
+Holds (ending k value score) =
+    let r = kernelFollow k (replicate 16 value) 0 (replicate 16 (pos 0)) in
+    (r .0 ≡ done) × (getD (r .1) 15 (pos 0) ≡ score)
+Holds (valueRefused k i value n) =
+    (out : List ℤ) → length out ≡ 16 → kernelFollow k (set (replicate 16 (pos 0)) i value) 0 out ≡ (refused n i, out)
 Holds (masking p phases) =
     let r = informationMask p (replicate 32 0) in
     (r .0 ≡ done) × (markedPhases (unpack (r .1)) ≡ phases)
-Holds (quantising m e value) =
-    let x = fin false m e in
+Holds (sizeRefused p n) = (out : List ℕ) → length out ≡ 32 → informationMask p out ≡ (refused n 0, out)
+Holds (quantising minus m e value) =
+    let x = fin minus m e in
     (fits binary32 x ≡ true) × (valuesFromMarks (replicate 256 x) (replicate 16 0) (replicate 256 (pos 0)) ≡ (done, replicate 256 value))
 
--- The table. Where all values are 1, the scores are the partial distances. The amplitudes are 1.0, 0.015625 and 0.046875.
+-- 2048 at each of the sixteen places.
+abbrev pub outside : ℕ → List Case
+outside k = tabulate 16 (λ i. valueRefused k i (pos 2048) 6)
+
+-- The table: every case of every bullet of the paper that has a star. Where all values are 1, the scores are the partial distances.
+-- The amplitudes are 1.0, 0.015625, 0.046875, 3.96875, 4.0, -4.0 and minus zero.
 abbrev pub starred : List Case
 starred =
     encoding 1 9 0xa6c0
@@ -52,11 +70,20 @@ starred =
     ∷ following 0 (pos 0) (replicate 16 (pos 0))
     ∷ following 1 (pos 0) (replicate 16 (pos 0))
     ∷ following 2 (pos 0) (replicate 16 (pos 0))
+    ∷ ending 0 (pos 2047) (pos 32752)
+    ∷ ending 1 (pos 2047) (pos 32752)
+    ∷ ending 2 (pos 2047) (pos 32752)
     ∷ masking 1 (191 ∷ 223 ∷ 239 ∷ 250 ∷ 251 ∷ 253 ∷ 254 ∷ 255 ∷ [])
-    ∷ quantising 1 (pos 0) (pos 32)
-    ∷ quantising 1 (negsuc 5) (pos 0)
-    ∷ quantising 3 (negsuc 5) (pos 2)
-    ∷ []
+    ∷ sizeRefused 0 8
+    ∷ sizeRefused 33 8
+    ∷ quantising false 1 (pos 0) (pos 32)
+    ∷ quantising false 1 (negsuc 5) (pos 0)
+    ∷ quantising false 3 (negsuc 5) (pos 2)
+    ∷ quantising false 127 (negsuc 4) (pos 127)
+    ∷ quantising false 1 (pos 2) (pos 127)
+    ∷ quantising true 1 (pos 2) (negsuc 126)
+    ∷ quantising true 0 (pos 0) (pos 0)
+    ∷ outside 0 ++ outside 1 ++ outside 2
 
 -- Every case of a table holds.
 abbrev pub AllHold : List Case → Type 0

@@ -1,1 +1,1 @@
-// The starred bench cases: one table and one theorem over it, about the definitions. No function runs.
+// The starred bench cases and the kernels' partial distances: tables, and theorems over them about the definitions. No function runs.

@@ -4,3 +4,4 @@ pub mod Running
 pub mod Asks
 pub mod Accepted
 pub mod Decided
+pub mod Exact

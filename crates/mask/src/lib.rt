@@ -29,7 +29,7 @@ pub fn part_length(mask: &[u8], n: usize) -> usize
 
 // Payload part: the first k/8 of the caller's 32 bytes, the part itself.
 pub fn payload_part<'a, 'b>(mask: &'b [u8], bytes: &'a [u8]) -> &'a [u8]
-    ensures { λ r. ⌜ (now r ≡ payloadPart (now (mask .entry)) (now (bytes .entry))) × (ptr r ≡ ptr (bytes .entry)) × (now (bytes .exit) ≡ now (bytes .entry)) ⌝ }
+    ensures { λ r. ⌜ (now r ≡ payloadPart (now (mask .entry)) (now (bytes .entry))) × (ptr r ≡ ptr (bytes .entry)) × (now (bytes .exit) ≡ now (bytes .entry)) × (now (mask .exit) ≡ now (mask .entry)) ⌝ }
 {
     let n = part_length(mask, bytes.len());
     &bytes[..n]

@@ -1,3 +1,4 @@
 pub mod Payload
 pub mod Tables
 pub mod Bytes
+pub mod Marked

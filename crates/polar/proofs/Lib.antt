@@ -13,3 +13,4 @@ pub mod Window
 pub mod Fold
 pub mod Folded
 pub mod Distance
+pub mod Exact

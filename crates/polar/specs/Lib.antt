@@ -7,3 +7,4 @@ pub mod Relation
 pub mod Window
 pub mod Fold
 pub mod Distance
+pub mod Exact

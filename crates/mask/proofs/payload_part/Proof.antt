@@ -19,7 +19,7 @@ slice-aggregate-result c =
 
 returns : tie.Need-returns
 unfolding payloadPart
-returns c = (ap (λ n. take n (c .before .before .before .before .args .bytes .now)) (c .before .part-length .ensures), refl, refl)
+returns c = (ap (λ n. take n (c .before .before .before .before .args .bytes .now)) (c .before .part-length .ensures), refl, refl, refl)
 
 pub payload-part-spec : {M : Type 1} → statement M
 payload-part-spec = tie.close (tie.spec part-length-requires slice-aggregate-result returns)

@@ -17,18 +17,18 @@ use Rattle.folds.specs.Rows.{leastTo}
 use Rattle.kernel.specs.Kernels.{kernelCode}
 use Rattle.kernel.specs.Distances.{distanceTable}
 use Rattle.windows.specs.Windows.{windows, solutions}
-use Rattle.profiles.proofs.Computed.{pathBy, leastBy, least-by}
+use Rattle.cases.proofs.Computed.{pathBy, leastBy, least-by}
 
-unfoldable profileTest : ℕ → ℕ → Bool
-profileTest k s = eqb (leastBy k weight (replicate s false) true) (getD (distanceTable k) s 0)
+unfoldable distanceTest : ℕ → ℕ → Bool
+distanceTest k s = eqb (leastBy k weight (replicate s false) true) (getD (distanceTable k) s 0)
 
-tested : every 3 (λ k. every 16 (profileTest k)) ≡ true
-unfolding profileTest leastBy pathBy leastTo windows solutions every parity tabulate bits symbols sumOf folded blocks arikan
+tested : every 3 (λ k. every 16 (distanceTest k)) ≡ true
+unfolding distanceTest leastBy pathBy leastTo windows solutions every parity tabulate bits symbols sumOf folded blocks arikan
 tested = refl
 
 -- The table has the partial distances of the three kernels.
 pub distance-table : (k s : ℕ) → k < 3 → s < 16 → partialDistance (kernelCode k) s ≡ getD (distanceTable k) s 0
-unfolding partialDistance profileTest
+unfolding partialDistance distanceTest
 distance-table k s lk ls =
     least-by k lk weight (replicate s false) (omega (arith, length-replicate s false)) true
-    ∙ eqb-true _ _ (every-at 16 (profileTest k) (every-at 3 (λ k. every 16 (profileTest k)) tested k lk) s ls)
+    ∙ eqb-true _ _ (every-at 16 (distanceTest k) (every-at 3 (λ k. every 16 (distanceTest k)) tested k lk) s ls)

@@ -1,0 +1,37 @@
+-- Demand 3 for frame follow and frame decode: what is true of what they leave. Assumes nothing.
+use mathlib.Core.Path.{_≡_}
+use mathlib.Core.Bool.{Bool, true, false}
+use mathlib.Core.List.{List}
+use Prim.Native.Nat.{ℕ, _*_, _/_, _≤_, _<_}
+use lib.IntN.{ℤ, pos}
+use lib.ListN.{length, getD, take, drop}
+use Rattle.base.specs.Bit.{bit}
+use Rattle.bits.specs.Packed.{unpack}
+use Rattle.payload.specs.Payload.{ones}
+use Rattle.mask.specs.Mask.{marked}
+use Rattle.polar.specs.Code.{channel}
+use Rattle.polar.specs.Exact.{ExactScore, ExactPenalty, IsSign}
+use Rattle.frame.specs.Frames.{frameCode}
+
+-- At every phase of the 256 symbols u, the score and the penalty written there are exact, over all words of the frame.
+-- There is room for 256 of each, and what lies past them stays: the buffers held scores₀ and penalties₀ before.
+pub record FrameExact (a b : ℕ) (values : List ℤ) (u : List Bool) (scores₀ scores : List ℤ) (penalties₀ penalties : List ℕ) : Type 0 where
+  pub score : (i : ℕ) → i < 256 → ExactScore (frameCode a b) (channel values) u i (getD scores i (pos 0))
+  pub penalty : (i : ℕ) → i < 256 → ExactPenalty (frameCode a b) (channel values) u i (getD penalties i 0)
+  pub count : length u ≡ 256
+  pub score-room : 256 ≤ length scores
+  pub score-rest : drop 256 scores ≡ drop 256 scores₀
+  pub penalty-room : 256 ≤ length penalties
+  pub penalty-rest : drop 256 penalties ≡ drop 256 penalties₀
+
+-- The decoder's symbols u and the payload go by the signs of the scores written. At a marked phase i the symbol is the sign of
+-- score i, and the payload has it as its bit number j, where j marked phases lie before i; at any other phase the symbol is 0.
+-- For a mask of k phases the payload has room for k bits, each of them is that of a marked phase, and what lies past its k/8 bytes
+-- stays: the buffer held payload₀ before.
+pub record BySigns (mask : List ℕ) (u : List Bool) (scores : List ℤ) (payload₀ payload : List ℕ) : Type 0 where
+  pub sign : (i : ℕ) → i < 256 → bit (unpack mask) i ≡ true → IsSign (getD scores i (pos 0)) (bit u i)
+  pub held : (i : ℕ) → i < 256 → bit (unpack mask) i ≡ true → bit (unpack payload) (ones (take i (unpack mask))) ≡ bit u i
+  pub frozen : (i : ℕ) → i < 256 → bit (unpack mask) i ≡ false → bit u i ≡ false
+  pub phase : (j : ℕ) → j < marked mask → (i : ℕ) × (i < 256) × (bit (unpack mask) i ≡ true) × (ones (take i (unpack mask)) ≡ j)
+  pub payload-room : marked mask ≤ 8 * length payload
+  pub payload-rest : drop (marked mask / 8) payload ≡ drop (marked mask / 8) payload₀
