@@ -11,6 +11,7 @@ abbrev pub rowPlus : ℕ → ℕ → List Bool → ℕ → Bool
 rowPlus k s t j = (kernel k) .entry s j ⊕ parity (length t) (λ i. bit t i && (kernel k) .entry (s + suc i) j)
 
 -- The profile numbers D of the rows of kernels 0, 1 and 2. (A number above 2 stands for kernel 2, as with the relations.)
+-- tables/run: partial distances
 abbrev pub profileTable : ℕ → List ℕ
 profileTable zero = 1 ∷ 2 ∷ 2 ∷ 4 ∷ 2 ∷ 4 ∷ 4 ∷ 8 ∷ 2 ∷ 4 ∷ 4 ∷ 8 ∷ 4 ∷ 8 ∷ 8 ∷ 16 ∷ []
 profileTable (suc zero) = 1 ∷ 2 ∷ 2 ∷ 2 ∷ 2 ∷ 4 ∷ 4 ∷ 4 ∷ 4 ∷ 6 ∷ 6 ∷ 8 ∷ 8 ∷ 8 ∷ 8 ∷ 16 ∷ []
