@@ -108,23 +108,17 @@ static void channel(const uint8_t *word, float *amplitudes)
 
 /* The receiver: marks to values, and values to the payload. */
 static struct nospridda_outcome receive(const float *amplitudes, const uint8_t *blanked, const uint8_t *mask,
-                                        uint8_t *payload, size_t payload_length, uint16_t *penalty)
+                                        uint16_t *penalties, uint8_t *payload, size_t payload_length)
 {
     int8_t values[NOSPRIDDA_FRAME_BITS];
     int16_t scores[NOSPRIDDA_FRAME_BITS];
-    uint16_t penalties[NOSPRIDDA_FRAME_BITS];
-    struct nospridda_outcome outcome;
+    struct nospridda_outcome outcome = nospridda_values_from_marks(
+        amplitudes, NOSPRIDDA_FRAME_BITS, blanked, NOSPRIDDA_MARK_BYTES, values, NOSPRIDDA_FRAME_BITS);
 
-    outcome = nospridda_values_from_marks(amplitudes, NOSPRIDDA_FRAME_BITS, blanked, NOSPRIDDA_MARK_BYTES,
-                                          values, NOSPRIDDA_FRAME_BITS);
-    if (outcome.number != NOSPRIDDA_ACCEPTED) {
-        return outcome;
-    }
-    outcome = nospridda_frame_decode(KERNEL, KERNEL, values, NOSPRIDDA_FRAME_BITS, mask, NOSPRIDDA_FRAME_BYTES,
-                                     scores, NOSPRIDDA_FRAME_BITS, penalties, NOSPRIDDA_FRAME_BITS,
-                                     payload, payload_length);
     if (outcome.number == NOSPRIDDA_ACCEPTED) {
-        *penalty = penalties[NOSPRIDDA_FRAME_BITS - 1]; /* what the decoded word pays */
+        outcome = nospridda_frame_decode(KERNEL, KERNEL, values, NOSPRIDDA_FRAME_BITS, mask, NOSPRIDDA_FRAME_BYTES,
+                                         scores, NOSPRIDDA_FRAME_BITS, penalties, NOSPRIDDA_FRAME_BITS,
+                                         payload, payload_length);
     }
     return outcome;
 }
@@ -132,14 +126,16 @@ static struct nospridda_outcome receive(const float *amplitudes, const uint8_t *
 /* An amplitude that is not finite is refused, and nothing is written. */
 static void refuse_infinity(const float *amplitudes, const uint8_t *blanked, const uint8_t *mask)
 {
-    static const uint8_t untouched[PAYLOAD_BYTES] = {0};
+    uint16_t penalties[NOSPRIDDA_FRAME_BITS] = {0};
     uint8_t payload[PAYLOAD_BYTES] = {0};
-    uint16_t penalty = 0;
-    struct nospridda_outcome outcome = receive(amplitudes, blanked, mask, payload, sizeof payload, &penalty);
+    struct nospridda_outcome outcome = receive(amplitudes, blanked, mask, penalties, payload, sizeof payload);
+    size_t i;
 
     refused(outcome, "values from marks, all heard", NOSPRIDDA_NOT_FINITE);
     expect(outcome.place == 2 * LOST, "the place is that of the amplitude");
-    expect(memcmp(payload, untouched, sizeof payload) == 0 && penalty == 0, "a refusal changes no buffer");
+    for (i = 0; i < NOSPRIDDA_FRAME_BITS; i++) {
+        expect(penalties[i] == 0 && payload[i % PAYLOAD_BYTES] == 0, "a refusal changes no buffer");
+    }
 }
 
 /* What the noise did: counts the values whose sign is not that of their bit,
@@ -176,7 +172,7 @@ int main(void)
     uint8_t blanked[NOSPRIDDA_MARK_BYTES] = {0};
     uint8_t signs[NOSPRIDDA_FRAME_BYTES] = {0};
     uint8_t decoded[PAYLOAD_BYTES] = {0};
-    uint16_t penalty = 0;
+    uint16_t penalties[NOSPRIDDA_FRAME_BITS];
     unsigned paid;
 
     /* Which of the 256 phases carry the payload. */
@@ -197,13 +193,13 @@ int main(void)
             "frame undo of the signs", NOSPRIDDA_FROZEN_ONE);
 
     /* The decoder looks at the sizes too. */
-    accepted(receive(amplitudes, blanked, mask, decoded, sizeof decoded, &penalty), "frame decode");
-    printf("final penalty:   %u\n", (unsigned)penalty);
+    accepted(receive(amplitudes, blanked, mask, penalties, decoded, sizeof decoded), "frame decode");
+    printf("final penalty:   %u\n", (unsigned)penalties[NOSPRIDDA_FRAME_BITS - 1]);
     print_bytes("payload decoded: ", decoded, sizeof decoded);
 
     /* The final penalty is what the decoded word pays: here the weight of the wrong signs. */
     expect(memcmp(sent, decoded, sizeof sent) == 0, "the payload decoded is the one sent");
-    expect(penalty == paid, "the final penalty is the weight of the wrong signs");
+    expect(penalties[NOSPRIDDA_FRAME_BITS - 1] == paid, "the final penalty is the weight of the wrong signs");
     printf("the payloads agree\n");
     return EXIT_SUCCESS;
 }
