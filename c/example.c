@@ -16,9 +16,6 @@
 
 enum {
     KERNEL = 2,        /* inner and outer kernel: the pair (2, 2) */
-    SYMBOLS = 256,     /* coded bits of a frame */
-    WORD_BYTES = 32,   /* the same, packed */
-    MARK_BYTES = 16,   /* one bit for each of 128 marks, which carry I and Q */
     PAYLOAD_BYTES = 8,
     LOST = 40,         /* a mark that the radio lost */
     FADED = 99         /* and another one */
@@ -84,59 +81,76 @@ static int noise(uint32_t *state)
     return sum;
 }
 
-int main(void)
+/* The sender: a payload to the word that is sent. */
+static void transmit(const uint8_t *mask, const uint8_t *payload, uint8_t *word)
 {
-    static const uint8_t sent[PAYLOAD_BYTES] = {0x4a, 0x6f, 0x79, 0x73, 0x74, 0x69, 0x63, 0x6b};
-    uint8_t mask[WORD_BYTES];
-    uint8_t word[WORD_BYTES];
-    float amplitudes[SYMBOLS];
-    uint8_t blanked[MARK_BYTES] = {0};
-    int8_t values[SYMBOLS] = {0};
-    uint8_t signs[WORD_BYTES] = {0};
-    int16_t scores[SYMBOLS];
-    uint16_t penalties[SYMBOLS];
-    uint8_t decoded[PAYLOAD_BYTES] = {0};
-    struct nospridda_outcome outcome;
+    accepted(nospridda_frame_encode(KERNEL, KERNEL, mask, NOSPRIDDA_FRAME_BYTES, payload, PAYLOAD_BYTES,
+                                    word, NOSPRIDDA_FRAME_BYTES),
+             "frame encode");
+    print_bytes("payload sent:    ", payload, PAYLOAD_BYTES);
+    print_bytes("word sent:       ", word, NOSPRIDDA_FRAME_BYTES);
+}
+
+/* The channel: 1 for bit 0, -1 for bit 1, noise in 64ths, and two lost marks. */
+static void channel(const uint8_t *word, float *amplitudes)
+{
     uint32_t state = 2463534242u;
-    unsigned wrong = 0;
-    unsigned paid = 0;
     size_t i;
 
-    /* Which of the 256 phases carry the payload. */
-    accepted(nospridda_information_mask(PAYLOAD_BYTES, mask, sizeof mask), "information mask");
-    expect(nospridda_part_length(mask, sizeof mask, WORD_BYTES) == PAYLOAD_BYTES, "the mask takes this payload");
-
-    /* The sender. */
-    accepted(nospridda_frame_encode(KERNEL, KERNEL, mask, sizeof mask, sent, sizeof sent, word, sizeof word),
-             "frame encode");
-    print_bytes("payload sent:    ", sent, sizeof sent);
-    print_bytes("word sent:       ", word, sizeof word);
-
-    /* The channel: 1 for bit 0, -1 for bit 1, and noise in 64ths. */
-    for (i = 0; i < SYMBOLS; i++) {
+    for (i = 0; i < NOSPRIDDA_FRAME_BITS; i++) {
         int level = bit(word, i) ? -64 : 64;
         amplitudes[i] = (float)(level + noise(&state)) / 64.0f;
     }
     amplitudes[2 * LOST] = INFINITY;
     amplitudes[2 * FADED] = 0.0f;
     amplitudes[2 * FADED + 1] = 0.0f;
+}
 
-    /* The receiver. An amplitude that is not finite is refused, and no value is written. */
-    outcome = nospridda_values_from_marks(amplitudes, SYMBOLS, blanked, sizeof blanked, values, SYMBOLS);
+/* The receiver: marks to values, and values to the payload. */
+static struct nospridda_outcome receive(const float *amplitudes, const uint8_t *blanked, const uint8_t *mask,
+                                        uint16_t *penalties, uint8_t *payload, size_t payload_length)
+{
+    int8_t values[NOSPRIDDA_FRAME_BITS];
+    int16_t scores[NOSPRIDDA_FRAME_BITS];
+    struct nospridda_outcome outcome = nospridda_values_from_marks(
+        amplitudes, NOSPRIDDA_FRAME_BITS, blanked, NOSPRIDDA_MARK_BYTES, values, NOSPRIDDA_FRAME_BITS);
+
+    if (outcome.number == NOSPRIDDA_ACCEPTED) {
+        outcome = nospridda_frame_decode(KERNEL, KERNEL, values, NOSPRIDDA_FRAME_BITS, mask, NOSPRIDDA_FRAME_BYTES,
+                                         scores, NOSPRIDDA_FRAME_BITS, penalties, NOSPRIDDA_FRAME_BITS,
+                                         payload, payload_length);
+    }
+    return outcome;
+}
+
+/* An amplitude that is not finite is refused, and nothing is written. */
+static void refuse_infinity(const float *amplitudes, const uint8_t *blanked, const uint8_t *mask)
+{
+    uint16_t penalties[NOSPRIDDA_FRAME_BITS] = {0};
+    uint8_t payload[PAYLOAD_BYTES] = {0};
+    struct nospridda_outcome outcome = receive(amplitudes, blanked, mask, penalties, payload, sizeof payload);
+    size_t i;
+
     refused(outcome, "values from marks, all heard", NOSPRIDDA_NOT_FINITE);
     expect(outcome.place == 2 * LOST, "the place is that of the amplitude");
-    for (i = 0; i < SYMBOLS; i++) {
-        expect(values[i] == 0, "a refusal changes no buffer");
+    for (i = 0; i < NOSPRIDDA_FRAME_BITS; i++) {
+        expect(penalties[i] == 0 && payload[i % PAYLOAD_BYTES] == 0, "a refusal changes no buffer");
     }
+}
 
-    /* Blanked, both marks give 0, which speaks for neither bit. */
-    set_bit(blanked, LOST);
-    set_bit(blanked, FADED);
-    accepted(nospridda_values_from_marks(amplitudes, SYMBOLS, blanked, sizeof blanked, values, SYMBOLS),
+/* What the noise did: counts the values whose sign is not that of their bit,
+ * packs all signs, and hands back what the sent word pays. */
+static unsigned wrong_signs(const float *amplitudes, const uint8_t *blanked, const uint8_t *word, uint8_t *signs)
+{
+    int8_t values[NOSPRIDDA_FRAME_BITS];
+    unsigned wrong = 0;
+    unsigned paid = 0;
+    size_t i;
+
+    accepted(nospridda_values_from_marks(amplitudes, NOSPRIDDA_FRAME_BITS, blanked, NOSPRIDDA_MARK_BYTES,
+                                         values, NOSPRIDDA_FRAME_BITS),
              "values from marks");
-
-    /* What the noise did: values that speak for the other bit, and their weight. */
-    for (i = 0; i < SYMBOLS; i++) {
+    for (i = 0; i < NOSPRIDDA_FRAME_BITS; i++) {
         if (values[i] < 0) {
             set_bit(signs, i);
         }
@@ -145,22 +159,47 @@ int main(void)
             paid += (unsigned)abs(values[i]);
         }
     }
-    printf("wrong signs:     %u of %d values, weight %u\n", wrong, SYMBOLS, paid);
+    printf("wrong signs:     %u of %d values, weight %u\n", wrong, NOSPRIDDA_FRAME_BITS, paid);
+    return paid;
+}
+
+int main(void)
+{
+    static const uint8_t sent[PAYLOAD_BYTES] = {0x4a, 0x6f, 0x79, 0x73, 0x74, 0x69, 0x63, 0x6b};
+    uint8_t mask[NOSPRIDDA_FRAME_BYTES];
+    uint8_t word[NOSPRIDDA_FRAME_BYTES];
+    float amplitudes[NOSPRIDDA_FRAME_BITS];
+    uint8_t blanked[NOSPRIDDA_MARK_BYTES] = {0};
+    uint8_t signs[NOSPRIDDA_FRAME_BYTES] = {0};
+    uint8_t decoded[PAYLOAD_BYTES] = {0};
+    uint16_t penalties[NOSPRIDDA_FRAME_BITS];
+    unsigned paid;
+
+    /* Which of the 256 phases carry the payload. */
+    accepted(nospridda_information_mask(PAYLOAD_BYTES, mask, sizeof mask), "information mask");
+    expect(nospridda_part_length(mask, sizeof mask, NOSPRIDDA_FRAME_BYTES) == PAYLOAD_BYTES,
+           "the mask takes this payload");
+    transmit(mask, sent, word);
+    channel(word, amplitudes);
+    refuse_infinity(amplitudes, blanked, mask);
+
+    /* Blanked, both marks give 0, which counts for neither bit. */
+    set_bit(blanked, LOST);
+    set_bit(blanked, FADED);
+    paid = wrong_signs(amplitudes, blanked, word, signs);
 
     /* The signs alone are no word of this mask, so undoing them is refused. */
-    outcome = nospridda_frame_undo(KERNEL, KERNEL, mask, sizeof mask, signs, sizeof signs, decoded, sizeof decoded);
-    refused(outcome, "frame undo of the signs", NOSPRIDDA_FROZEN_ONE);
+    refused(nospridda_frame_undo(KERNEL, KERNEL, mask, sizeof mask, signs, sizeof signs, decoded, sizeof decoded),
+            "frame undo of the signs", NOSPRIDDA_FROZEN_ONE);
 
     /* The decoder looks at the sizes too. */
-    accepted(nospridda_frame_decode(KERNEL, KERNEL, values, SYMBOLS, mask, sizeof mask,
-                                    scores, SYMBOLS, penalties, SYMBOLS, decoded, sizeof decoded),
-             "frame decode");
-    printf("final penalty:   %u\n", (unsigned)penalties[SYMBOLS - 1]);
+    accepted(receive(amplitudes, blanked, mask, penalties, decoded, sizeof decoded), "frame decode");
+    printf("final penalty:   %u\n", (unsigned)penalties[NOSPRIDDA_FRAME_BITS - 1]);
     print_bytes("payload decoded: ", decoded, sizeof decoded);
 
     /* The final penalty is what the decoded word pays: here the weight of the wrong signs. */
     expect(memcmp(sent, decoded, sizeof sent) == 0, "the payload decoded is the one sent");
-    expect(penalties[SYMBOLS - 1] == paid, "the final penalty is the weight of the wrong signs");
+    expect(penalties[NOSPRIDDA_FRAME_BITS - 1] == paid, "the final penalty is the weight of the wrong signs");
     printf("the payloads agree\n");
     return EXIT_SUCCESS;
 }

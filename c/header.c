@@ -10,10 +10,17 @@
 
 #include "nospridda.h"
 
+#if NOSPRIDDA_VERSION != 1
+#error "c/header.c is for version 1 of the header"
+#endif
+
+/* The header's sizes under shorter names. */
 enum {
-    SYMBOLS = 256,   /* coded bits of a frame */
-    WORD_BYTES = 32, /* the same, packed */
-    MARK_BYTES = 16  /* one bit for each of 128 marks */
+    SIXTEEN = NOSPRIDDA_KERNEL_BITS,
+    SYMBOLS = NOSPRIDDA_FRAME_BITS,
+    WORD_BYTES = NOSPRIDDA_FRAME_BYTES,
+    MARKS = NOSPRIDDA_FRAME_MARKS,
+    MARK_BYTES = NOSPRIDDA_MARK_BYTES
 };
 
 /* Ends the program unless something holds. */
@@ -67,27 +74,29 @@ static void kernels(void)
 
 static void kernel_follow(void)
 {
-    static const int16_t first[16] = {1, 2, 2, 2, 2, 4, 4, 4, 4, 6, 6, 8, 8, 8, 8, 16};
-    static const int16_t second[16] = {1, 2, 2, 4, 2, 2, 4, 4, 6, 6, 8, 8, 4, 8, 8, 16};
-    int16_t values[16];
-    int16_t scores[16] = {0};
+    static const int16_t first[SIXTEEN] = {1, 2, 2, 2, 2, 4, 4, 4, 4, 6, 6, 8, 8, 8, 8, 16};
+    static const int16_t second[SIXTEEN] = {1, 2, 2, 4, 2, 2, 4, 4, 6, 6, 8, 8, 4, 8, 8, 16};
+    int16_t values[SIXTEEN];
+    int16_t scores[SIXTEEN] = {0};
     size_t i;
 
-    for (i = 0; i < 16; i++) {
+    for (i = 0; i < SIXTEEN; i++) {
         values[i] = 1;
     }
-    outcome(nospridda_kernel_follow(1, values, 16, 0, scores, 16), NOSPRIDDA_ACCEPTED, 0, "kernel follow, kernel 1");
+    outcome(nospridda_kernel_follow(1, values, SIXTEEN, 0, scores, SIXTEEN), NOSPRIDDA_ACCEPTED, 0,
+            "kernel follow, kernel 1");
     expect(memcmp(scores, first, sizeof scores) == 0, "the profile of kernel 1");
-    outcome(nospridda_kernel_follow(2, values, 16, 0, scores, 16), NOSPRIDDA_ACCEPTED, 0, "kernel follow, kernel 2");
+    outcome(nospridda_kernel_follow(2, values, SIXTEEN, 0, scores, SIXTEEN), NOSPRIDDA_ACCEPTED, 0,
+            "kernel follow, kernel 2");
     expect(memcmp(scores, second, sizeof scores) == 0, "the profile of kernel 2");
 
     /* The word of symbol 0 has a single 1, and so has that of symbols 0 and 1. */
-    outcome(nospridda_kernel_follow(2, values, 16, 0x8000, scores, 16), NOSPRIDDA_ACCEPTED, 0,
+    outcome(nospridda_kernel_follow(2, values, SIXTEEN, 0x8000, scores, SIXTEEN), NOSPRIDDA_ACCEPTED, 0,
             "kernel follow, symbol 0 set");
     expect(scores[0] == 1 && scores[1] == 0, "scores after symbol 0");
 
     values[5] = -2048;
-    outcome(nospridda_kernel_follow(2, values, 16, 0, scores, 16), NOSPRIDDA_VALUE_OUT_OF_RANGE, 5,
+    outcome(nospridda_kernel_follow(2, values, SIXTEEN, 0, scores, SIXTEEN), NOSPRIDDA_VALUE_OUT_OF_RANGE, 5,
             "kernel follow, a value out of range");
 }
 
@@ -110,23 +119,25 @@ static void masks(uint8_t *mask)
 /* Inner kernel 1, outer kernel 2, and a payload whose only 1 is the symbol of
  * phase 250 = 16 * 15 + 10: row 10 of kernel 1 is 6ca0, row 15 of kernel 2 is
  * all ones. */
-static void frames(const uint8_t *mask)
+static const uint8_t sent = 0x10;
+
+/* Bit i of its word. */
+static int sent_bit(size_t i)
 {
-    static const uint8_t sent = 0x10;
+    return word_bit(0x6ca0, i / 16);
+}
+
+static void encode_and_undo(const uint8_t *mask)
+{
     uint8_t expected[WORD_BYTES] = {0};
     uint8_t word[WORD_BYTES] = {0};
-    int8_t values[SYMBOLS];
-    int16_t scores[SYMBOLS] = {0};
-    uint16_t penalties[SYMBOLS] = {0};
     uint8_t payload = 0;
     size_t i;
 
     for (i = 0; i < SYMBOLS; i++) {
-        int one = word_bit(0x6ca0, i / 16);
-        if (one) {
+        if (sent_bit(i)) {
             set_bit(expected, i);
         }
-        values[i] = one ? -127 : 127;
     }
     outcome(nospridda_frame_encode(1, 2, mask, WORD_BYTES, &sent, 1, word, sizeof word), NOSPRIDDA_ACCEPTED, 0,
             "frame encode");
@@ -142,8 +153,19 @@ static void frames(const uint8_t *mask)
     word[2] ^= 0x80;
     outcome(nospridda_frame_undo(1, 2, mask, WORD_BYTES, word, sizeof word, &payload, 1), NOSPRIDDA_FROZEN_ONE, 1,
             "frame undo, symbol 1 set");
+}
 
-    payload = 0;
+static void decode(const uint8_t *mask)
+{
+    int8_t values[SYMBOLS];
+    int16_t scores[SYMBOLS] = {0};
+    uint16_t penalties[SYMBOLS] = {0};
+    uint8_t payload = 0;
+    size_t i;
+
+    for (i = 0; i < SYMBOLS; i++) {
+        values[i] = sent_bit(i) ? -127 : 127;
+    }
     outcome(nospridda_frame_decode(1, 2, values, SYMBOLS, mask, WORD_BYTES, scores, SYMBOLS, penalties, SYMBOLS,
                                    &payload, 1),
             NOSPRIDDA_ACCEPTED, 0, "frame decode");
@@ -196,6 +218,7 @@ static void marks(void)
     int8_t values[SYMBOLS];
     size_t i;
 
+    expect(2 * MARKS == SYMBOLS && 8 * MARK_BYTES == MARKS && 8 * WORD_BYTES == SYMBOLS, "the sizes of the header");
     memset(values, 1, sizeof values);
     outcome(nospridda_values_from_marks(amplitudes, SYMBOLS, blanked, sizeof blanked, values, SYMBOLS),
             NOSPRIDDA_ACCEPTED, 0, "values from marks");
@@ -220,7 +243,8 @@ int main(void)
     kernels();
     kernel_follow();
     masks(mask);
-    frames(mask);
+    encode_and_undo(mask);
+    decode(mask);
     frame_follow();
     marks();
     printf("all ten functions answer through the header\n");

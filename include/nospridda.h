@@ -21,10 +21,14 @@
  *
  * A job keeps nothing from one call to the next: what it answers and writes
  * follows from what it is handed. All this is proved of the library. It
- * allocates nothing, and calls nothing but memcpy and memset. On x86-64 frame
- * follow and frame decode take at most 12.5 KiB of stack, kernel follow 3.8 KiB
- * (measured, not proved; see docs/BENCH.md). Jobs may run at the same time on
- * different buffers.
+ * allocates nothing, and calls nothing but memcpy and memset. Jobs may run at
+ * the same time on different buffers.
+ *
+ * The library is built for x86-64 Linux, because that is what the kit that
+ * proves it compiles for. Firmware on another processor needs the kit's back
+ * end for that processor. On x86-64 frame follow and frame decode take at most
+ * 12.5 KiB of stack, kernel follow 3.8 KiB (measured, not proved; see
+ * docs/BENCH.md).
  *
  * What the caller must keep, and nothing proves or looks at:
  *
@@ -43,6 +47,18 @@
 
 #include <stddef.h>
 #include <stdint.h>
+
+/* The version of this interface. It goes up by one with every change of a
+ * declaration, a number, a size or a result that callers could rely on. What is
+ * only added leaves it as it is. */
+#define NOSPRIDDA_VERSION 1
+
+/* Sizes, in elements of the buffer that they are for. */
+#define NOSPRIDDA_KERNEL_BITS 16  /* symbols, bits, values and scores of a kernel */
+#define NOSPRIDDA_FRAME_BITS 256  /* the same of a frame; its penalties; the amplitudes of its marks */
+#define NOSPRIDDA_FRAME_BYTES 32  /* a frame's symbols, word or mask, packed; the longest payload */
+#define NOSPRIDDA_FRAME_MARKS 128 /* the marks that carry a frame */
+#define NOSPRIDDA_MARK_BYTES 16   /* a bit for each of them, packed: the blanking mask */
 
 #ifdef __cplusplus
 extern "C" {
@@ -99,8 +115,8 @@ struct nospridda_word_outcome nospridda_kernel_undo(uint8_t kernel, uint16_t wor
  *
  * The score of a phase is the best score of the words that begin with the
  * symbols before it and have 0 next, less that of the words with 1 next. A word
- * pays the size of each value that speaks for the other bit; its score is minus
- * what it pays in all.
+ * pays |y| for each value y that is above 0 where the word has bit 1, or below 0
+ * where it has bit 0; its score is minus what it pays in all.
  *
  * Answers 0, or, with all scores left as they were,
  *   1  kernel is not 0, 1 or 2;
@@ -118,7 +134,8 @@ struct nospridda_outcome nospridda_kernel_follow(
  * mask       32 bytes.
  * payload    k/8 bytes, k being the count of phases that the mask marks. Its
  *            bits are the symbols at the marked phases, in rising order; all
- *            other symbols are 0.
+ *            other symbols are 0. As with every buffer the pointer is not null,
+ *            even where payload_length is 0 (which is refused).
  * word       32 bytes are written.
  *
  * Answers 0, or, with word left as it was,

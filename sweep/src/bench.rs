@@ -104,18 +104,22 @@ impl Inputs {
         }
     }
 
-    /// Calls a job, or what is timed beside it, `count` times. What it writes to is not on the stack.
+    /// Calls a job, or what is timed beside it, `count` times. False where there is none of this name. The functions below
+    /// are not inlined, so that the stack of a job has nothing of another.
     fn run(&self, job: &str, count: u64) -> bool {
-        let &Inputs {
-            inner,
-            outer,
-            ref mask,
-            ..
-        } = self;
-        let mut scores = Box::new([0; 256]);
-        let mut penalties = Box::new([0; 256]);
-        let mut values = Box::new([0; 256]);
-        let mut bytes = vec![0; 32];
+        let out = &mut Outputs::new();
+        self.kernel_job(job, count, out)
+            || self.word_job(job, count, out)
+            || self.value_job(job, count, out)
+            || self.other_job(job, count, out)
+            || self.plain_job(job, count, out)
+            || self.sweep_job(job, count, out)
+    }
+
+    /// The jobs of one kernel.
+    #[inline(never)]
+    fn kernel_job(&self, job: &str, count: u64, out: &mut Outputs) -> bool {
+        let (inner, scores) = (self.inner, &mut out.scores);
         match job {
             "kernel-encode" => each(count, |i| {
                 black_box(kernel_encode(inner, self.words[i]));
@@ -126,67 +130,102 @@ impl Inputs {
             "kernel-follow" => each(count, |i| {
                 let (y, symbols) = (&self.values[i], self.words[i]);
                 black_box(kernel_follow(inner, y, symbols, &mut scores[..]));
-                black_box(&mut scores);
+                black_box(&mut *scores);
             }),
+            _ => return false,
+        }
+        true
+    }
+
+    /// Between payloads and the words of frames.
+    #[inline(never)]
+    fn word_job(&self, job: &str, count: u64, out: &mut Outputs) -> bool {
+        let (inner, outer, mask) = (self.inner, self.outer, &self.mask);
+        let bytes = &mut out.bytes;
+        match job {
             "frame-encode" => each(count, |i| {
                 let payload = &self.payloads[i];
-                black_box(frame_encode(inner, outer, mask, payload, &mut bytes));
-                black_box(&mut bytes);
+                black_box(frame_encode(inner, outer, mask, payload, bytes));
+                black_box(&mut *bytes);
             }),
             "frame-undo" => each(count, |i| {
                 let word = &self.frames[i];
-                black_box(frame_undo(inner, outer, mask, word, &mut bytes));
-                black_box(&mut bytes);
+                black_box(frame_undo(inner, outer, mask, word, bytes));
+                black_box(&mut *bytes);
             }),
+            _ => return false,
+        }
+        true
+    }
+
+    /// From a frame's values.
+    #[inline(never)]
+    #[rustfmt::skip]
+    fn value_job(&self, job: &str, count: u64, out: &mut Outputs) -> bool {
+        let (inner, outer, mask) = (self.inner, self.outer, &self.mask);
+        let Outputs { scores, penalties, bytes, .. } = out;
+        match job {
             "frame-follow" => each(count, |i| {
-                black_box(frame_follow(
-                    inner,
-                    outer,
-                    &self.received[i],
-                    &self.symbols[i],
-                    &mut scores[..],
-                    &mut penalties[..],
-                ));
-                black_box((&mut scores, &mut penalties));
+                let (values, symbols) = (&self.received[i], &self.symbols[i]);
+                black_box(frame_follow(inner, outer, values, symbols, &mut scores[..], &mut penalties[..]));
+                black_box((&mut *scores, &mut *penalties));
             }),
             "frame-decode" => each(count, |i| {
-                black_box(frame_decode(
-                    inner,
-                    outer,
-                    &self.received[i],
-                    mask,
-                    &mut scores[..],
-                    &mut penalties[..],
-                    &mut bytes,
-                ));
-                black_box((&mut scores, &mut penalties, &mut bytes));
+                let values = &self.received[i];
+                black_box(frame_decode(inner, outer, values, mask, &mut scores[..], &mut penalties[..], bytes));
+                black_box((&mut *scores, &mut *penalties, &mut *bytes));
             }),
-            "plain-decode" => each(count, |i| {
-                black_box(self.decoder.frame_decode(
-                    inner,
-                    outer,
-                    &self.received[i],
-                    mask,
-                    &mut scores,
-                    &mut penalties,
-                    &mut bytes,
-                ));
-                black_box((&mut scores, &mut penalties, &mut bytes));
-            }),
+            _ => return false,
+        }
+        true
+    }
+
+    /// Masks, and marks.
+    #[inline(never)]
+    fn other_job(&self, job: &str, count: u64, out: &mut Outputs) -> bool {
+        let Outputs { values, bytes, .. } = out;
+        match job {
             "part-length" => each(count, |_| {
-                black_box(part_length(black_box(mask), bytes.len()));
+                black_box(part_length(black_box(&self.mask), bytes.len()));
             }),
             "information-mask" => each(count, |_| {
-                black_box(information_mask(PAYLOAD, &mut bytes));
-                black_box(&mut bytes);
+                black_box(information_mask(PAYLOAD, bytes));
+                black_box(&mut *bytes);
             }),
             "values-from-marks" => each(count, |i| {
                 let amplitudes = &self.amplitudes[i];
                 black_box(values_from_marks(amplitudes, &[0; 16], &mut values[..]));
-                black_box(&mut values);
+                black_box(&mut *values);
             }),
+            _ => return false,
+        }
+        true
+    }
+
+    /// The plain decoder.
+    #[inline(never)]
+    #[rustfmt::skip]
+    fn plain_job(&self, job: &str, count: u64, out: &mut Outputs) -> bool {
+        let (inner, outer, mask) = (self.inner, self.outer, &self.mask);
+        let Outputs { scores, penalties, bytes, .. } = out;
+        match job {
+            "plain-decode" => each(count, |i| {
+                let values = &self.received[i];
+                black_box(self.decoder.frame_decode(inner, outer, values, mask, scores, penalties, bytes));
+                black_box((&mut *scores, &mut *penalties, &mut *bytes));
+            }),
+            _ => return false,
+        }
+        true
+    }
+
+    /// The sweep's own ways.
+    #[inline(never)]
+    fn sweep_job(&self, job: &str, count: u64, out: &mut Outputs) -> bool {
+        let values = &mut out.values;
+        match job {
             "sweep-follow" => {
-                let kernel = self.kernel.get_or_init(|| Kernel::new(inner));
+                let kernel = self.kernel.get_or_init(|| Kernel::new(self.inner));
                 let mut paid = Vec::new();
                 each(count, |i| {
                     totals(kernel, &self.values[i], pay, &mut paid);
@@ -194,12 +233,31 @@ impl Inputs {
                 });
             }
             "sweep-values" => each(count, |i| {
-                *values = self.amplitudes[i].map(|amplitude| value(amplitude.to_bits()));
-                black_box(&mut values);
+                **values = self.amplitudes[i].map(|amplitude| value(amplitude.to_bits()));
+                black_box(&mut *values);
             }),
             _ => return false,
         }
         true
+    }
+}
+
+/// What the jobs write to; it is not on the stack.
+struct Outputs {
+    scores: Box<[i16; 256]>,
+    penalties: Box<[u16; 256]>,
+    values: Box<[i8; 256]>,
+    bytes: Vec<u8>,
+}
+
+impl Outputs {
+    fn new() -> Outputs {
+        Outputs {
+            scores: Box::new([0; 256]),
+            penalties: Box::new([0; 256]),
+            values: Box::new([0; 256]),
+            bytes: vec![0; 32],
+        }
     }
 }
 

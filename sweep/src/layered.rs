@@ -120,28 +120,26 @@ fn word(inner: &Block, outer: &Block, symbols: &[bool]) -> Vec<bool> {
         .collect()
 }
 
-/// The scores and penalties of the last `count` phases of these symbols, over all words that agree with the symbols
-/// before them, with no layering. The words are sums of those of single symbols, each by the sum above.
-pub fn over_all_words(
+/// The total of every word whose symbols agree with the first ones, `count` of them being free. The words are sums of
+/// those of single symbols, each by the sum above.
+fn totals_from(
     inner: &Block,
     outer: &Block,
     values: &[i32],
     symbols: &[bool],
     count: usize,
-) -> Found {
+) -> Vec<i32> {
     let known = symbols.len() - count;
     let mut front = symbols.to_vec();
     front[known..].fill(false);
     let first = word(inner, outer, &front);
-    let units: Vec<Vec<bool>> = (known..symbols.len())
-        .map(|i| {
-            let mut unit = vec![false; symbols.len()];
-            unit[i] = true;
-            word(inner, outer, &unit)
-        })
-        .collect();
-    let mut totals = vec![0; 1 << count];
-    for (u, total) in totals.iter_mut().enumerate() {
+    let unit = |i: usize| {
+        let mut unit = vec![false; symbols.len()];
+        unit[i] = true;
+        word(inner, outer, &unit)
+    };
+    let units: Vec<Vec<bool>> = (known..symbols.len()).map(unit).collect();
+    let total = |u: usize| {
         let mut word = first.clone();
         for (i, unit) in units.iter().enumerate() {
             if (u >> (count - 1 - i)) & 1 == 1 {
@@ -150,22 +148,32 @@ pub fn over_all_words(
                 }
             }
         }
-        *total = values
-            .iter()
-            .zip(&word)
-            .map(|(&y, &bit)| pay(y)[usize::from(bit)])
-            .sum();
-    }
+        let paid = values.iter().zip(&word);
+        paid.map(|(&y, &bit)| pay(y)[usize::from(bit)]).sum()
+    };
+    (0..1 << count).map(total).collect()
+}
+
+/// The scores and penalties of the last `count` phases of these symbols, over all words that agree with the symbols
+/// before them, with no layering.
+pub fn over_all_words(
+    inner: &Block,
+    outer: &Block,
+    values: &[i32],
+    symbols: &[bool],
+    count: usize,
+) -> Found {
+    let totals = totals_from(inner, outer, values, symbols, count);
     let mut found = Found::default();
     let mut front = 0;
-    for i in 0..count {
+    for (i, &symbol) in symbols[symbols.len() - count..].iter().enumerate() {
         let free = count - 1 - i;
         let least = [0, 1].map(|bit| {
             let from = (2 * front + bit) << free;
             *totals[from..from + (1 << free)].iter().min().unwrap()
         });
-        found.push(least, symbols[known + i]);
-        front = 2 * front + usize::from(symbols[known + i]);
+        found.push(least, symbol);
+        front = 2 * front + usize::from(symbol);
     }
     found
 }

@@ -339,38 +339,39 @@ fn mark_cases(tally: &mut Tally) {
     };
     let mut lines = 0;
     for line in text.lines() {
-        let Some((name, _)) = line
-            .strip_prefix("amplitude ")
-            .and_then(|rest| rest.split_once(':'))
-        else {
-            continue;
-        };
-        let pattern = match name {
-            "largest" => 0x7f7f_ffff,
-            "-largest" => 0xff7f_ffff,
-            "smallest" => 1,
-            "-smallest" => 0x8000_0001,
-            _ => name.parse().map_or(NOT_FINITE[0], f32::to_bits),
-        };
-        tally.expect(
-            is_finite(pattern),
-            format_args!("mark_cases prints the amplitude {name}"),
-        );
-        let (it, others) = (value(pattern), value(ONE));
-        let want = format!(
-            "amplitude {name}: 0 0, values {others} {it} {others} {others} {it} {others}, kept"
-        );
-        tally.expect(
-            line == want,
-            format_args!("mark_cases prints {line}, not {want}"),
-        );
-        lines += 1;
+        if let Some(rest) = line.strip_prefix("amplitude ") {
+            mark_line(tally, line, rest.split(':').next().unwrap_or(""));
+            lines += 1;
+        }
     }
     tally.expect(
         lines == 17,
         format_args!("mark_cases prints {lines} amplitudes"),
     );
     tally.group("lines of mark_cases", lines);
+}
+
+/// A line of an amplitude that is finite.
+fn mark_line(tally: &mut Tally, line: &str, name: &str) {
+    let pattern = match name {
+        "largest" => 0x7f7f_ffff,
+        "-largest" => 0xff7f_ffff,
+        "smallest" => 1,
+        "-smallest" => 0x8000_0001,
+        _ => name.parse().map_or(NOT_FINITE[0], f32::to_bits),
+    };
+    tally.expect(
+        is_finite(pattern),
+        format_args!("mark_cases prints the amplitude {name}"),
+    );
+    let (it, others) = (value(pattern), value(ONE));
+    let want = format!(
+        "amplitude {name}: 0 0, values {others} {it} {others} {others} {it} {others}, kept"
+    );
+    tally.expect(
+        line == want,
+        format_args!("mark_cases prints {line}, not {want}"),
+    );
 }
 
 /// A pattern that is not finite at every place, heard and blanked, and with a second one above it.

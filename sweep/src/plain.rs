@@ -56,53 +56,80 @@ fn values(random: &mut Random, kind: usize, sent: &Bits) -> [i8; 256] {
     })
 }
 
+/// A request of frame decode.
+struct Request {
+    inner: u8,
+    outer: u8,
+    values: [i8; 256],
+    mask: [u8; 32],
+}
+
+impl Request {
+    /// One of the nine pairs, any mask, and values of the four kinds in turn.
+    fn new(random: &mut Random, kernels: &[Kernel], turn: usize) -> Request {
+        let (inner, outer) = (turn % 3, turn / 3 % 3);
+        let mask = mask(random);
+        let marks = unpacked(&mask);
+        let symbols: Bits = std::array::from_fn(|i| marks[i] && random.once_in(2));
+        let sent = word(&kernels[inner], &kernels[outer], &symbols);
+        Request {
+            inner: inner as u8,
+            outer: outer as u8,
+            values: values(random, turn / 9 % 4, &sent),
+            mask,
+        }
+    }
+
+    /// What the library answers, and hands out.
+    fn library(&self) -> (Outcome, Decoded) {
+        let mut decoded = Decoded::new();
+        let outcome = frame_decode(
+            self.inner,
+            self.outer,
+            &self.values,
+            &self.mask,
+            &mut decoded.scores,
+            &mut decoded.penalties,
+            &mut decoded.payload,
+        );
+        (outcome, decoded)
+    }
+
+    /// The same of the plain decoder.
+    fn plain(&self, decoder: &Decoder) -> (Option<usize>, Decoded) {
+        let mut decoded = Decoded::new();
+        let bytes = decoder.frame_decode(
+            self.inner,
+            self.outer,
+            &self.values,
+            &self.mask,
+            &mut decoded.scores,
+            &mut decoded.penalties,
+            &mut decoded.payload,
+        );
+        (bytes, decoded)
+    }
+}
+
 pub fn sweep(tally: &mut Tally, kernels: &[Kernel]) {
     let decoder = Decoder::new();
     let mut random = Random::new(7);
     let turns = 900;
     for turn in 0..turns {
-        let (inner, outer) = (turn % 3, turn / 3 % 3);
-        let mask = mask(&mut random);
-        let marks = unpacked(&mask);
-        let symbols: Bits = std::array::from_fn(|i| marks[i] && random.once_in(2));
-        let sent = word(&kernels[inner], &kernels[outer], &symbols);
-        let values = values(&mut random, turn / 9 % 4, &sent);
-        let (inner, outer) = (inner as u8, outer as u8);
-        let mut want = Decoded::new();
-        let outcome = frame_decode(
-            inner,
-            outer,
-            &values,
-            &mask,
-            &mut want.scores,
-            &mut want.penalties,
-            &mut want.payload,
-        );
-        let mut got = Decoded::new();
-        let bytes = decoder.frame_decode(
-            inner,
-            outer,
-            &values,
-            &mask,
-            &mut got.scores,
-            &mut got.penalties,
-            &mut got.payload,
-        );
-        let done = Outcome {
-            number: 0,
-            place: 0,
-        };
-        let k = marks.iter().filter(|&&marked| marked).count();
+        let request = Request::new(&mut random, kernels, turn);
+        let (outcome, want) = request.library();
+        let (bytes, got) = request.plain(&decoder);
+        let k: u32 = request.mask.iter().map(|byte| byte.count_ones()).sum();
         let apart = want.first_apart(&got);
         tally.expect(
-            outcome == done
-                && bytes == Some(k / 8)
+            (outcome.number, outcome.place) == (0, 0)
+                && bytes == Some(k as usize / 8)
                 && apart.is_none()
                 && want.payload == got.payload,
             format_args!(
-                "plain decoder, pair ({inner}, {outer}): {outcome:?} and {bytes:?}, first phase apart {apart:?}, \
+                "plain decoder, pair ({}, {}): {outcome:?} and {bytes:?}, first phase apart {apart:?}, \
                  payloads {:02x?} and {:02x?}",
-                want.payload, got.payload
+                request.inner, request.outer, want.payload, got.payload
             ),
         );
     }

@@ -129,6 +129,37 @@ impl Walk {
     }
 }
 
+/// What decoding writes, and how far it is.
+struct Output<'a> {
+    scores: &'a mut [i16; 256],
+    penalties: &'a mut [u16; 256],
+    payload: &'a mut [u8],
+    penalty: u16,
+    byte: u8,
+    bits: usize,
+}
+
+impl Output<'_> {
+    /// Takes the score of phase i, and gives its symbol: the sign where it is marked, else 0.
+    #[inline(always)]
+    fn take(&mut self, i: usize, score: i16, marked: bool) -> bool {
+        let symbol = marked && score < 0;
+        if symbol != (score < 0) {
+            self.penalty += score.unsigned_abs();
+        }
+        self.scores[i] = score;
+        self.penalties[i] = self.penalty;
+        if marked {
+            self.byte = self.byte << 1 | u8::from(symbol);
+            self.bits += 1;
+            if self.bits % 8 == 0 {
+                self.payload[self.bits / 8 - 1] = self.byte;
+            }
+        }
+        symbol
+    }
+}
+
 pub struct Decoder {
     kernels: [Kernel; 3],
 }
@@ -159,39 +190,27 @@ impl Decoder {
             return None;
         }
         let payload = payload.get_mut(..marked as usize / 8)?;
-
+        let bytes = payload.len();
+        let (penalty, byte, bits) = (0, 0, 0);
+        #[rustfmt::skip]
+        let mut output = Output { scores, penalties, payload, penalty, byte, bits };
         let mut columns: [Walk; 16] = std::array::from_fn(|j| {
             Walk::new(std::array::from_fn(|t| i16::from(values[16 * j + t])))
         });
-        let (mut byte, mut bits) = (0, 0);
-        let mut penalty = 0;
         for (r, phase) in outer.phases.iter().enumerate() {
             let marks = u16::from_be_bytes([mask[2 * r], mask[2 * r + 1]]);
             let mut row = Walk::new(columns.each_mut().map(|column| column.score(phase)));
             for (s, phase) in inner.phases.iter().enumerate() {
                 let score = row.score(phase);
-                let marked = marks & (0x8000 >> s) != 0;
-                let symbol = marked && score < 0;
-                if symbol != (score < 0) {
-                    penalty += score.unsigned_abs();
-                }
-                scores[16 * r + s] = score;
-                penalties[16 * r + s] = penalty;
+                let symbol = output.take(16 * r + s, score, marks & (0x8000 >> s) != 0);
                 row.settle(s, symbol);
-                if marked {
-                    byte = byte << 1 | u8::from(symbol);
-                    bits += 1;
-                    if bits % 8 == 0 {
-                        payload[bits / 8 - 1] = byte;
-                    }
-                }
             }
             let word = inner.rows.of(row.symbols);
             for (j, column) in columns.iter_mut().enumerate() {
                 column.settle(r, word & (0x8000 >> j) != 0);
             }
         }
-        Some(payload.len())
+        Some(bytes)
     }
 }
 

@@ -143,55 +143,56 @@ impl Kernel {
     }
 }
 
-/// The phase of the last of some relations, and its window: v that are free, and fix with the symbols all others. The
-/// highest v and the window of the phase before are given.
+/// The decoding window of some relations that use v up to v[high]: v that are free, and fix with the symbols all others.
+fn window(relations: &[u16], high: usize) -> Vec<usize> {
+    let mut basis = Vec::new();
+    for &form in relations {
+        extends(&mut basis, form);
+    }
+    (0..=high)
+        .filter(|&v| extends(&mut basis, 0x8000 >> v))
+        .collect()
+}
+
+/// The number of the path that has v, among those of a window.
+fn path_number(v: u16, window: &[usize]) -> u16 {
+    let members = window.iter().rev();
+    members.fold(0, |number, &i| number << 1 | bit(v, i))
+}
+
+/// The phase of the last of some relations, and its window. The highest v and the window of the phase before are given.
 fn phase(
     relations: &[u16],
     high_before: Option<usize>,
     window_before: &[usize],
 ) -> (Phase, Vec<usize>) {
     let s = relations.len() - 1;
-    let high = relations
-        .iter()
-        .map(|form| 15 - form.trailing_zeros() as usize)
-        .max()
-        .unwrap();
-    let mut basis = Vec::new();
+    let used = relations.iter().fold(0, |used, form| used | form);
+    let high = 15 - used.trailing_zeros() as usize;
+    let window = window(relations, high);
     let mut forms = relations.to_vec();
-    for &form in relations {
-        extends(&mut basis, form);
-    }
-    let window: Vec<usize> = (0..=high)
-        .filter(|&v| extends(&mut basis, 0x8000 >> v))
-        .collect();
     forms.extend(window.iter().map(|&v| 0x8000 >> v));
-    let vs = inverse(&forms);
-
     let again = high_before == Some(high);
-    let adds = |v: u16| {
-        if again {
-            window_before
-                .iter()
-                .rev()
-                .fold(0, |number, &i| number << 1 | bit(v, i))
-        } else {
-            known_words(v, high)
-        }
-    };
+    let adds: Vec<u16> = inverse(&forms)
+        .into_iter()
+        .map(|v| match again {
+            true => path_number(v, window_before),
+            false => known_words(v, high),
+        })
+        .collect();
     let window_adds = |w: usize| {
         (0..window.len())
             .filter(|k| w >> k & 1 == 1)
-            .fold(0, |sum, k| sum ^ adds(vs[s + 1 + k]))
+            .fold(0, |sum, k| sum ^ adds[s + 1 + k])
     };
     let paths = 1 << window.len();
     let phase = Phase {
         high,
-        source: if again {
-            Source::Kept { own: adds(vs[s]) }
-        } else {
-            Source::Costs
+        source: match again {
+            true => Source::Kept { own: adds[s] },
+            false => Source::Costs,
         },
-        symbols: Sums::new(std::array::from_fn(|i| if i < s { adds(vs[i]) } else { 0 })),
+        symbols: Sums::new(std::array::from_fn(|i| if i < s { adds[i] } else { 0 })),
         windows: std::array::from_fn(|w| if w < paths { window_adds(w) } else { 0 }),
         paths,
     };

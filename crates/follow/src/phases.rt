@@ -3,58 +3,58 @@
 // For each phase of each kernel: the highest v that the relations up to it use, and 1 where they reach no further than before.
 pub const SHAPES: [[[u8; 2]; 16]; 3] = [
     [
-        [0, 0],
-        [1, 0],
-        [2, 0],
-        [3, 0],
-        [4, 0],
-        [5, 0],
-        [6, 0],
-        [7, 0],
-        [8, 0],
-        [9, 0],
-        [10, 0],
-        [11, 0],
-        [12, 0],
-        [13, 0],
-        [14, 0],
-        [15, 0],
+        [0, 0], // kernel 0, phase 0
+        [1, 0], // kernel 0, phase 1
+        [2, 0], // kernel 0, phase 2
+        [3, 0], // kernel 0, phase 3
+        [4, 0], // kernel 0, phase 4
+        [5, 0], // kernel 0, phase 5
+        [6, 0], // kernel 0, phase 6
+        [7, 0], // kernel 0, phase 7
+        [8, 0], // kernel 0, phase 8
+        [9, 0], // kernel 0, phase 9
+        [10, 0], // kernel 0, phase 10
+        [11, 0], // kernel 0, phase 11
+        [12, 0], // kernel 0, phase 12
+        [13, 0], // kernel 0, phase 13
+        [14, 0], // kernel 0, phase 14
+        [15, 0], // kernel 0, phase 15
     ],
     [
-        [0, 0],
-        [1, 0],
-        [2, 0],
-        [4, 0],
-        [8, 0],
-        [9, 0],
-        [10, 0],
-        [10, 1],
-        [12, 0],
-        [12, 1],
-        [12, 1],
-        [12, 1],
-        [12, 1],
-        [13, 0],
-        [14, 0],
-        [15, 0],
+        [0, 0], // kernel 1, phase 0
+        [1, 0], // kernel 1, phase 1
+        [2, 0], // kernel 1, phase 2
+        [4, 0], // kernel 1, phase 3
+        [8, 0], // kernel 1, phase 4
+        [9, 0], // kernel 1, phase 5
+        [10, 0], // kernel 1, phase 6
+        [10, 1], // kernel 1, phase 7
+        [12, 0], // kernel 1, phase 8
+        [12, 1], // kernel 1, phase 9
+        [12, 1], // kernel 1, phase 10
+        [12, 1], // kernel 1, phase 11
+        [12, 1], // kernel 1, phase 12
+        [13, 0], // kernel 1, phase 13
+        [14, 0], // kernel 1, phase 14
+        [15, 0], // kernel 1, phase 15
     ],
     [
-        [0, 0],
-        [1, 0],
-        [2, 0],
-        [3, 0],
-        [4, 0],
-        [8, 0],
-        [9, 0],
-        [10, 0],
-        [10, 1],
-        [10, 1],
-        [10, 1],
-        [11, 0],
-        [12, 0],
-        [13, 0],
-        [14, 0],
-        [15, 0],
+        [0, 0], // kernel 2, phase 0
+        [1, 0], // kernel 2, phase 1
+        [2, 0], // kernel 2, phase 2
+        [3, 0], // kernel 2, phase 3
+        [4, 0], // kernel 2, phase 4
+        [8, 0], // kernel 2, phase 5
+        [9, 0], // kernel 2, phase 6
+        [10, 0], // kernel 2, phase 7
+        [10, 1], // kernel 2, phase 8
+        [10, 1], // kernel 2, phase 9
+        [10, 1], // kernel 2, phase 10
+        [11, 0], // kernel 2, phase 11
+        [12, 0], // kernel 2, phase 12
+        [13, 0], // kernel 2, phase 13
+        [14, 0], // kernel 2, phase 14
+        [15, 0], // kernel 2, phase 15
     ],
 ];
 
@@ -62,7 +62,7 @@ pub const SHAPES: [[[u8; 2]; 16]; 3] = [
 pub const PATHS: [[[u16; 16]; 16]; 3] = [
     [
         [
-            0x8000,
+            0x8000, // kernel 0, phase 0, u0
             0x0000,
             0x0000,
             0x0000,
@@ -80,8 +80,8 @@ pub const PATHS: [[[u16; 16]; 16]; 3] = [
             0x0000,
         ],
         [
-            0x8000,
-            0x4000,
+            0x8000, // kernel 0, phase 1, u0
+            0x4000, // kernel 0, phase 1, u1
             0x0000,
             0x0000,
             0x0000,
@@ -98,9 +98,9 @@ pub const PATHS: [[[u16; 16]; 16]; 3] = [
             0x0000,
         ],
         [
-            0x8000,
-            0xc000,
-            0x2000,
+            0x8000, // kernel 0, phase 2, u0
+            0xc000, // kernel 0, phase 2, u1
+            0x2000, // kernel 0, phase 2, u2
             0x0000,
             0x0000,
             0x0000,
@@ -116,10 +116,10 @@ pub const PATHS: [[[u16; 16]; 16]; 3] = [
             0x0000,
         ],
         [
-            0x8000,
-            0xc000,
-            0x2000,
-            0x1000,
+            0x8000, // kernel 0, phase 3, u0
+            0xc000, // kernel 0, phase 3, u1
+            0x2000, // kernel 0, phase 3, u2
+            0x1000, // kernel 0, phase 3, u3
             0x0000,
             0x0000,
             0x0000,
@@ -134,11 +134,11 @@ pub const PATHS: [[[u16; 16]; 16]; 3] = [
             0x0000,
         ],
         [
-            0x8000,
-            0xc000,
-            0xa000,
-            0xf000,
-            0x0800,
+            0x8000, // kernel 0, phase 4, u0
+            0xc000, // kernel 0, phase 4, u1
+            0xa000, // kernel 0, phase 4, u2
+            0xf000, // kernel 0, phase 4, u3
+            0x0800, // kernel 0, phase 4, u4
             0x0000,
             0x0000,
             0x0000,
@@ -152,12 +152,12 @@ pub const PATHS: [[[u16; 16]; 16]; 3] = [
             0x0000,
         ],
         [
-            0x8000,
-            0xc000,
-            0xa000,
-            0xf000,
-            0x0800,
-            0x0400,
+            0x8000, // kernel 0, phase 5, u0
+            0xc000, // kernel 0, phase 5, u1
+            0xa000, // kernel 0, phase 5, u2
+            0xf000, // kernel 0, phase 5, u3
+            0x0800, // kernel 0, phase 5, u4
+            0x0400, // kernel 0, phase 5, u5
             0x0000,
             0x0000,
             0x0000,
@@ -170,13 +170,13 @@ pub const PATHS: [[[u16; 16]; 16]; 3] = [
             0x0000,
         ],
         [
-            0x8000,
-            0xc000,
-            0xa000,
-            0xf000,
-            0x0800,
-            0x0c00,
-            0x0200,
+            0x8000, // kernel 0, phase 6, u0
+            0xc000, // kernel 0, phase 6, u1
+            0xa000, // kernel 0, phase 6, u2
+            0xf000, // kernel 0, phase 6, u3
+            0x0800, // kernel 0, phase 6, u4
+            0x0c00, // kernel 0, phase 6, u5
+            0x0200, // kernel 0, phase 6, u6
             0x0000,
             0x0000,
             0x0000,
@@ -188,14 +188,14 @@ pub const PATHS: [[[u16; 16]; 16]; 3] = [
             0x0000,
         ],
         [
-            0x8000,
-            0xc000,
-            0xa000,
-            0xf000,
-            0x0800,
-            0x0c00,
-            0x0200,
-            0x0100,
+            0x8000, // kernel 0, phase 7, u0
+            0xc000, // kernel 0, phase 7, u1
+            0xa000, // kernel 0, phase 7, u2
+            0xf000, // kernel 0, phase 7, u3
+            0x0800, // kernel 0, phase 7, u4
+            0x0c00, // kernel 0, phase 7, u5
+            0x0200, // kernel 0, phase 7, u6
+            0x0100, // kernel 0, phase 7, u7
             0x0000,
             0x0000,
             0x0000,
@@ -206,15 +206,15 @@ pub const PATHS: [[[u16; 16]; 16]; 3] = [
             0x0000,
         ],
         [
-            0x8000,
-            0xc000,
-            0xa000,
-            0xf000,
-            0x8800,
-            0xcc00,
-            0xaa00,
-            0xff00,
-            0x0080,
+            0x8000, // kernel 0, phase 8, u0
+            0xc000, // kernel 0, phase 8, u1
+            0xa000, // kernel 0, phase 8, u2
+            0xf000, // kernel 0, phase 8, u3
+            0x8800, // kernel 0, phase 8, u4
+            0xcc00, // kernel 0, phase 8, u5
+            0xaa00, // kernel 0, phase 8, u6
+            0xff00, // kernel 0, phase 8, u7
+            0x0080, // kernel 0, phase 8, u8
             0x0000,
             0x0000,
             0x0000,
@@ -224,16 +224,16 @@ pub const PATHS: [[[u16; 16]; 16]; 3] = [
             0x0000,
         ],
         [
-            0x8000,
-            0xc000,
-            0xa000,
-            0xf000,
-            0x8800,
-            0xcc00,
-            0xaa00,
-            0xff00,
-            0x0080,
-            0x0040,
+            0x8000, // kernel 0, phase 9, u0
+            0xc000, // kernel 0, phase 9, u1
+            0xa000, // kernel 0, phase 9, u2
+            0xf000, // kernel 0, phase 9, u3
+            0x8800, // kernel 0, phase 9, u4
+            0xcc00, // kernel 0, phase 9, u5
+            0xaa00, // kernel 0, phase 9, u6
+            0xff00, // kernel 0, phase 9, u7
+            0x0080, // kernel 0, phase 9, u8
+            0x0040, // kernel 0, phase 9, u9
             0x0000,
             0x0000,
             0x0000,
@@ -242,17 +242,17 @@ pub const PATHS: [[[u16; 16]; 16]; 3] = [
             0x0000,
         ],
         [
-            0x8000,
-            0xc000,
-            0xa000,
-            0xf000,
-            0x8800,
-            0xcc00,
-            0xaa00,
-            0xff00,
-            0x0080,
-            0x00c0,
-            0x0020,
+            0x8000, // kernel 0, phase 10, u0
+            0xc000, // kernel 0, phase 10, u1
+            0xa000, // kernel 0, phase 10, u2
+            0xf000, // kernel 0, phase 10, u3
+            0x8800, // kernel 0, phase 10, u4
+            0xcc00, // kernel 0, phase 10, u5
+            0xaa00, // kernel 0, phase 10, u6
+            0xff00, // kernel 0, phase 10, u7
+            0x0080, // kernel 0, phase 10, u8
+            0x00c0, // kernel 0, phase 10, u9
+            0x0020, // kernel 0, phase 10, u10
             0x0000,
             0x0000,
             0x0000,
@@ -260,389 +260,99 @@ pub const PATHS: [[[u16; 16]; 16]; 3] = [
             0x0000,
         ],
         [
-            0x8000,
-            0xc000,
-            0xa000,
-            0xf000,
-            0x8800,
-            0xcc00,
-            0xaa00,
-            0xff00,
-            0x0080,
-            0x00c0,
-            0x0020,
-            0x0010,
+            0x8000, // kernel 0, phase 11, u0
+            0xc000, // kernel 0, phase 11, u1
+            0xa000, // kernel 0, phase 11, u2
+            0xf000, // kernel 0, phase 11, u3
+            0x8800, // kernel 0, phase 11, u4
+            0xcc00, // kernel 0, phase 11, u5
+            0xaa00, // kernel 0, phase 11, u6
+            0xff00, // kernel 0, phase 11, u7
+            0x0080, // kernel 0, phase 11, u8
+            0x00c0, // kernel 0, phase 11, u9
+            0x0020, // kernel 0, phase 11, u10
+            0x0010, // kernel 0, phase 11, u11
             0x0000,
             0x0000,
             0x0000,
             0x0000,
         ],
         [
-            0x8000,
-            0xc000,
-            0xa000,
-            0xf000,
-            0x8800,
-            0xcc00,
-            0xaa00,
-            0xff00,
-            0x0080,
-            0x00c0,
-            0x00a0,
-            0x00f0,
-            0x0008,
+            0x8000, // kernel 0, phase 12, u0
+            0xc000, // kernel 0, phase 12, u1
+            0xa000, // kernel 0, phase 12, u2
+            0xf000, // kernel 0, phase 12, u3
+            0x8800, // kernel 0, phase 12, u4
+            0xcc00, // kernel 0, phase 12, u5
+            0xaa00, // kernel 0, phase 12, u6
+            0xff00, // kernel 0, phase 12, u7
+            0x0080, // kernel 0, phase 12, u8
+            0x00c0, // kernel 0, phase 12, u9
+            0x00a0, // kernel 0, phase 12, u10
+            0x00f0, // kernel 0, phase 12, u11
+            0x0008, // kernel 0, phase 12, u12
             0x0000,
             0x0000,
             0x0000,
         ],
         [
-            0x8000,
-            0xc000,
-            0xa000,
-            0xf000,
-            0x8800,
-            0xcc00,
-            0xaa00,
-            0xff00,
-            0x0080,
-            0x00c0,
-            0x00a0,
-            0x00f0,
-            0x0008,
-            0x0004,
+            0x8000, // kernel 0, phase 13, u0
+            0xc000, // kernel 0, phase 13, u1
+            0xa000, // kernel 0, phase 13, u2
+            0xf000, // kernel 0, phase 13, u3
+            0x8800, // kernel 0, phase 13, u4
+            0xcc00, // kernel 0, phase 13, u5
+            0xaa00, // kernel 0, phase 13, u6
+            0xff00, // kernel 0, phase 13, u7
+            0x0080, // kernel 0, phase 13, u8
+            0x00c0, // kernel 0, phase 13, u9
+            0x00a0, // kernel 0, phase 13, u10
+            0x00f0, // kernel 0, phase 13, u11
+            0x0008, // kernel 0, phase 13, u12
+            0x0004, // kernel 0, phase 13, u13
             0x0000,
             0x0000,
         ],
         [
-            0x8000,
-            0xc000,
-            0xa000,
-            0xf000,
-            0x8800,
-            0xcc00,
-            0xaa00,
-            0xff00,
-            0x0080,
-            0x00c0,
-            0x00a0,
-            0x00f0,
-            0x0008,
-            0x000c,
-            0x0002,
+            0x8000, // kernel 0, phase 14, u0
+            0xc000, // kernel 0, phase 14, u1
+            0xa000, // kernel 0, phase 14, u2
+            0xf000, // kernel 0, phase 14, u3
+            0x8800, // kernel 0, phase 14, u4
+            0xcc00, // kernel 0, phase 14, u5
+            0xaa00, // kernel 0, phase 14, u6
+            0xff00, // kernel 0, phase 14, u7
+            0x0080, // kernel 0, phase 14, u8
+            0x00c0, // kernel 0, phase 14, u9
+            0x00a0, // kernel 0, phase 14, u10
+            0x00f0, // kernel 0, phase 14, u11
+            0x0008, // kernel 0, phase 14, u12
+            0x000c, // kernel 0, phase 14, u13
+            0x0002, // kernel 0, phase 14, u14
             0x0000,
         ],
         [
-            0x8000,
-            0xc000,
-            0xa000,
-            0xf000,
-            0x8800,
-            0xcc00,
-            0xaa00,
-            0xff00,
-            0x0080,
-            0x00c0,
-            0x00a0,
-            0x00f0,
-            0x0008,
-            0x000c,
-            0x0002,
-            0x0001,
-        ],
-    ],
-    [
-        [
-            0x8000,
-            0x0000,
-            0x0000,
-            0x0000,
-            0x0000,
-            0x0000,
-            0x0000,
-            0x0000,
-            0x0000,
-            0x0000,
-            0x0000,
-            0x0000,
-            0x0000,
-            0x0000,
-            0x0000,
-            0x0000,
-        ],
-        [
-            0x8000,
-            0x4000,
-            0x0000,
-            0x0000,
-            0x0000,
-            0x0000,
-            0x0000,
-            0x0000,
-            0x0000,
-            0x0000,
-            0x0000,
-            0x0000,
-            0x0000,
-            0x0000,
-            0x0000,
-            0x0000,
-        ],
-        [
-            0x8000,
-            0xc000,
-            0x2000,
-            0x0000,
-            0x0000,
-            0x0000,
-            0x0000,
-            0x0000,
-            0x0000,
-            0x0000,
-            0x0000,
-            0x0000,
-            0x0000,
-            0x0000,
-            0x0000,
-            0x0000,
-        ],
-        [
-            0x8000,
-            0xc000,
-            0xa000,
-            0x0800,
-            0xf000,
-            0x0000,
-            0x0000,
-            0x0000,
-            0x0000,
-            0x0000,
-            0x0000,
-            0x0000,
-            0x0000,
-            0x0000,
-            0x0000,
-            0x0000,
-        ],
-        [
-            0x8000,
-            0xc000,
-            0xa000,
-            0x8800,
-            0x0080,
-            0xf000,
-            0xcc00,
-            0xaa00,
-            0xff00,
-            0x0000,
-            0x0000,
-            0x0000,
-            0x0000,
-            0x0000,
-            0x0000,
-            0x0000,
-        ],
-        [
-            0x8000,
-            0xc000,
-            0xa000,
-            0x8800,
-            0x0080,
-            0x0040,
-            0xf000,
-            0xcc00,
-            0xaa40,
-            0xff00,
-            0x0000,
-            0x0000,
-            0x0000,
-            0x0000,
-            0x0000,
-            0x0000,
-        ],
-        [
-            0x8000,
-            0xc000,
-            0xa000,
-            0x8800,
-            0x0080,
-            0x00c0,
-            0x0020,
-            0xf000,
-            0xcc20,
-            0xaae0,
-            0xff00,
-            0x0000,
-            0x0000,
-            0x0000,
-            0x0000,
-            0x0000,
-        ],
-        [
-            0x0000,
-            0x0000,
-            0x0000,
-            0x0000,
-            0x0000,
-            0x0000,
-            0x0000,
-            0x0008,
-            0x0004,
-            0x0002,
-            0x0001,
-            0x0000,
-            0x0000,
-            0x0000,
-            0x0000,
-            0x0000,
-        ],
-        [
-            0x8000,
-            0xc000,
-            0xa000,
-            0x8800,
-            0x0080,
-            0x00c0,
-            0x00a0,
-            0xf000,
-            0x0008,
-            0xcca0,
-            0xaa60,
-            0xff00,
-            0x00f0,
-            0x0000,
-            0x0000,
-            0x0000,
-        ],
-        [
-            0x0000,
-            0x0000,
-            0x0000,
-            0x0000,
-            0x0000,
-            0x0000,
-            0x0000,
-            0x0000,
-            0x0000,
-            0x0004,
-            0x0008,
-            0x0002,
-            0x0001,
-            0x0000,
-            0x0000,
-            0x0000,
-        ],
-        [
-            0x0000,
-            0x0000,
-            0x0000,
-            0x0000,
-            0x0000,
-            0x0000,
-            0x0004,
-            0x0000,
-            0x0000,
-            0x0004,
-            0x0004,
-            0x0002,
-            0x0001,
-            0x0000,
-            0x0000,
-            0x0000,
-        ],
-        [
-            0x0000,
-            0x0000,
-            0x0000,
-            0x0000,
-            0x0000,
-            0x0000,
-            0x0000,
-            0x0000,
-            0x0000,
-            0x0000,
-            0x0000,
-            0x0002,
-            0x0001,
-            0x0000,
-            0x0000,
-            0x0000,
-        ],
-        [
-            0x0000,
-            0x0000,
-            0x0000,
-            0x0000,
-            0x0000,
-            0x0000,
-            0x0000,
-            0x0000,
-            0x0000,
-            0x0000,
-            0x0000,
-            0x0000,
-            0x0001,
-            0x0000,
-            0x0000,
-            0x0000,
-        ],
-        [
-            0x8000,
-            0xc000,
-            0xa000,
-            0x8800,
-            0x0080,
-            0x00c0,
-            0xcc00,
-            0xf000,
-            0x0008,
-            0x66c0,
-            0xcca0,
-            0xff00,
-            0x00f0,
-            0x0004,
-            0x0000,
-            0x0000,
-        ],
-        [
-            0x8000,
-            0xc000,
-            0xa000,
-            0x8800,
-            0x0080,
-            0x00c0,
-            0xcc00,
-            0xf000,
-            0x0008,
-            0x66c0,
-            0xcca0,
-            0xff00,
-            0x00f0,
-            0x000c,
-            0x0002,
-            0x0000,
-        ],
-        [
-            0x8000,
-            0xc000,
-            0xa000,
-            0x8800,
-            0x0080,
-            0x00c0,
-            0xcc00,
-            0xf000,
-            0x0008,
-            0x66c0,
-            0xcca0,
-            0xff00,
-            0x00f0,
-            0x000c,
-            0x0002,
-            0x0001,
+            0x8000, // kernel 0, phase 15, u0
+            0xc000, // kernel 0, phase 15, u1
+            0xa000, // kernel 0, phase 15, u2
+            0xf000, // kernel 0, phase 15, u3
+            0x8800, // kernel 0, phase 15, u4
+            0xcc00, // kernel 0, phase 15, u5
+            0xaa00, // kernel 0, phase 15, u6
+            0xff00, // kernel 0, phase 15, u7
+            0x0080, // kernel 0, phase 15, u8
+            0x00c0, // kernel 0, phase 15, u9
+            0x00a0, // kernel 0, phase 15, u10
+            0x00f0, // kernel 0, phase 15, u11
+            0x0008, // kernel 0, phase 15, u12
+            0x000c, // kernel 0, phase 15, u13
+            0x0002, // kernel 0, phase 15, u14
+            0x0001, // kernel 0, phase 15, u15
         ],
     ],
     [
         [
-            0x8000,
+            0x8000, // kernel 1, phase 0, u0
             0x0000,
             0x0000,
             0x0000,
@@ -660,8 +370,8 @@ pub const PATHS: [[[u16; 16]; 16]; 3] = [
             0x0000,
         ],
         [
-            0x8000,
-            0x4000,
+            0x8000, // kernel 1, phase 1, u0
+            0x4000, // kernel 1, phase 1, u1
             0x0000,
             0x0000,
             0x0000,
@@ -678,9 +388,9 @@ pub const PATHS: [[[u16; 16]; 16]; 3] = [
             0x0000,
         ],
         [
-            0x8000,
-            0xc000,
-            0x2000,
+            0x8000, // kernel 1, phase 2, u0
+            0xc000, // kernel 1, phase 2, u1
+            0x2000, // kernel 1, phase 2, u2
             0x0000,
             0x0000,
             0x0000,
@@ -696,10 +406,246 @@ pub const PATHS: [[[u16; 16]; 16]; 3] = [
             0x0000,
         ],
         [
-            0x8000,
-            0xc000,
-            0x2000,
-            0x1000,
+            0x8000, // kernel 1, phase 3, u0
+            0xc000, // kernel 1, phase 3, u1
+            0xa000, // kernel 1, phase 3, u2
+            0x0800, // kernel 1, phase 3, u3
+            0xf000, // kernel 1, phase 3, v3
+            0x0000,
+            0x0000,
+            0x0000,
+            0x0000,
+            0x0000,
+            0x0000,
+            0x0000,
+            0x0000,
+            0x0000,
+            0x0000,
+            0x0000,
+        ],
+        [
+            0x8000, // kernel 1, phase 4, u0
+            0xc000, // kernel 1, phase 4, u1
+            0xa000, // kernel 1, phase 4, u2
+            0x8800, // kernel 1, phase 4, u3
+            0x0080, // kernel 1, phase 4, u4
+            0xf000, // kernel 1, phase 4, v3
+            0xcc00, // kernel 1, phase 4, v5
+            0xaa00, // kernel 1, phase 4, v6
+            0xff00, // kernel 1, phase 4, v7
+            0x0000,
+            0x0000,
+            0x0000,
+            0x0000,
+            0x0000,
+            0x0000,
+            0x0000,
+        ],
+        [
+            0x8000, // kernel 1, phase 5, u0
+            0xc000, // kernel 1, phase 5, u1
+            0xa000, // kernel 1, phase 5, u2
+            0x8800, // kernel 1, phase 5, u3
+            0x0080, // kernel 1, phase 5, u4
+            0x0040, // kernel 1, phase 5, u5
+            0xf000, // kernel 1, phase 5, v3
+            0xcc00, // kernel 1, phase 5, v5
+            0xaa40, // kernel 1, phase 5, v6
+            0xff00, // kernel 1, phase 5, v7
+            0x0000,
+            0x0000,
+            0x0000,
+            0x0000,
+            0x0000,
+            0x0000,
+        ],
+        [
+            0x8000, // kernel 1, phase 6, u0
+            0xc000, // kernel 1, phase 6, u1
+            0xa000, // kernel 1, phase 6, u2
+            0x8800, // kernel 1, phase 6, u3
+            0x0080, // kernel 1, phase 6, u4
+            0x00c0, // kernel 1, phase 6, u5
+            0x0020, // kernel 1, phase 6, u6
+            0xf000, // kernel 1, phase 6, v3
+            0xcc20, // kernel 1, phase 6, v5
+            0xaae0, // kernel 1, phase 6, v6
+            0xff00, // kernel 1, phase 6, v7
+            0x0000,
+            0x0000,
+            0x0000,
+            0x0000,
+            0x0000,
+        ],
+        [
+            0x0000, // kernel 1, phase 7, u0
+            0x0000, // kernel 1, phase 7, u1
+            0x0000, // kernel 1, phase 7, u2
+            0x0000, // kernel 1, phase 7, u3
+            0x0000, // kernel 1, phase 7, u4
+            0x0000, // kernel 1, phase 7, u5
+            0x0000, // kernel 1, phase 7, u6
+            0x0008, // kernel 1, phase 7, u7
+            0x0004, // kernel 1, phase 7, v5
+            0x0002, // kernel 1, phase 7, v6
+            0x0001, // kernel 1, phase 7, v7
+            0x0000,
+            0x0000,
+            0x0000,
+            0x0000,
+            0x0000,
+        ],
+        [
+            0x8000, // kernel 1, phase 8, u0
+            0xc000, // kernel 1, phase 8, u1
+            0xa000, // kernel 1, phase 8, u2
+            0x8800, // kernel 1, phase 8, u3
+            0x0080, // kernel 1, phase 8, u4
+            0x00c0, // kernel 1, phase 8, u5
+            0x00a0, // kernel 1, phase 8, u6
+            0xf000, // kernel 1, phase 8, u7
+            0x0008, // kernel 1, phase 8, u8
+            0xcca0, // kernel 1, phase 8, v5
+            0xaa60, // kernel 1, phase 8, v6
+            0xff00, // kernel 1, phase 8, v7
+            0x00f0, // kernel 1, phase 8, v11
+            0x0000,
+            0x0000,
+            0x0000,
+        ],
+        [
+            0x0000, // kernel 1, phase 9, u0
+            0x0000, // kernel 1, phase 9, u1
+            0x0000, // kernel 1, phase 9, u2
+            0x0000, // kernel 1, phase 9, u3
+            0x0000, // kernel 1, phase 9, u4
+            0x0000, // kernel 1, phase 9, u5
+            0x0000, // kernel 1, phase 9, u6
+            0x0000, // kernel 1, phase 9, u7
+            0x0000, // kernel 1, phase 9, u8
+            0x0004, // kernel 1, phase 9, u9
+            0x0008, // kernel 1, phase 9, v5
+            0x0002, // kernel 1, phase 9, v7
+            0x0001, // kernel 1, phase 9, v11
+            0x0000,
+            0x0000,
+            0x0000,
+        ],
+        [
+            0x0000, // kernel 1, phase 10, u0
+            0x0000, // kernel 1, phase 10, u1
+            0x0000, // kernel 1, phase 10, u2
+            0x0000, // kernel 1, phase 10, u3
+            0x0000, // kernel 1, phase 10, u4
+            0x0000, // kernel 1, phase 10, u5
+            0x0004, // kernel 1, phase 10, u6
+            0x0000, // kernel 1, phase 10, u7
+            0x0000, // kernel 1, phase 10, u8
+            0x0004, // kernel 1, phase 10, u9
+            0x0004, // kernel 1, phase 10, u10
+            0x0002, // kernel 1, phase 10, v7
+            0x0001, // kernel 1, phase 10, v11
+            0x0000,
+            0x0000,
+            0x0000,
+        ],
+        [
+            0x0000, // kernel 1, phase 11, u0
+            0x0000, // kernel 1, phase 11, u1
+            0x0000, // kernel 1, phase 11, u2
+            0x0000, // kernel 1, phase 11, u3
+            0x0000, // kernel 1, phase 11, u4
+            0x0000, // kernel 1, phase 11, u5
+            0x0000, // kernel 1, phase 11, u6
+            0x0000, // kernel 1, phase 11, u7
+            0x0000, // kernel 1, phase 11, u8
+            0x0000, // kernel 1, phase 11, u9
+            0x0000, // kernel 1, phase 11, u10
+            0x0002, // kernel 1, phase 11, u11
+            0x0001, // kernel 1, phase 11, v11
+            0x0000,
+            0x0000,
+            0x0000,
+        ],
+        [
+            0x0000, // kernel 1, phase 12, u0
+            0x0000, // kernel 1, phase 12, u1
+            0x0000, // kernel 1, phase 12, u2
+            0x0000, // kernel 1, phase 12, u3
+            0x0000, // kernel 1, phase 12, u4
+            0x0000, // kernel 1, phase 12, u5
+            0x0000, // kernel 1, phase 12, u6
+            0x0000, // kernel 1, phase 12, u7
+            0x0000, // kernel 1, phase 12, u8
+            0x0000, // kernel 1, phase 12, u9
+            0x0000, // kernel 1, phase 12, u10
+            0x0000, // kernel 1, phase 12, u11
+            0x0001, // kernel 1, phase 12, u12
+            0x0000,
+            0x0000,
+            0x0000,
+        ],
+        [
+            0x8000, // kernel 1, phase 13, u0
+            0xc000, // kernel 1, phase 13, u1
+            0xa000, // kernel 1, phase 13, u2
+            0x8800, // kernel 1, phase 13, u3
+            0x0080, // kernel 1, phase 13, u4
+            0x00c0, // kernel 1, phase 13, u5
+            0xcc00, // kernel 1, phase 13, u6
+            0xf000, // kernel 1, phase 13, u7
+            0x0008, // kernel 1, phase 13, u8
+            0x66c0, // kernel 1, phase 13, u9
+            0xcca0, // kernel 1, phase 13, u10
+            0xff00, // kernel 1, phase 13, u11
+            0x00f0, // kernel 1, phase 13, u12
+            0x0004, // kernel 1, phase 13, u13
+            0x0000,
+            0x0000,
+        ],
+        [
+            0x8000, // kernel 1, phase 14, u0
+            0xc000, // kernel 1, phase 14, u1
+            0xa000, // kernel 1, phase 14, u2
+            0x8800, // kernel 1, phase 14, u3
+            0x0080, // kernel 1, phase 14, u4
+            0x00c0, // kernel 1, phase 14, u5
+            0xcc00, // kernel 1, phase 14, u6
+            0xf000, // kernel 1, phase 14, u7
+            0x0008, // kernel 1, phase 14, u8
+            0x66c0, // kernel 1, phase 14, u9
+            0xcca0, // kernel 1, phase 14, u10
+            0xff00, // kernel 1, phase 14, u11
+            0x00f0, // kernel 1, phase 14, u12
+            0x000c, // kernel 1, phase 14, u13
+            0x0002, // kernel 1, phase 14, u14
+            0x0000,
+        ],
+        [
+            0x8000, // kernel 1, phase 15, u0
+            0xc000, // kernel 1, phase 15, u1
+            0xa000, // kernel 1, phase 15, u2
+            0x8800, // kernel 1, phase 15, u3
+            0x0080, // kernel 1, phase 15, u4
+            0x00c0, // kernel 1, phase 15, u5
+            0xcc00, // kernel 1, phase 15, u6
+            0xf000, // kernel 1, phase 15, u7
+            0x0008, // kernel 1, phase 15, u8
+            0x66c0, // kernel 1, phase 15, u9
+            0xcca0, // kernel 1, phase 15, u10
+            0xff00, // kernel 1, phase 15, u11
+            0x00f0, // kernel 1, phase 15, u12
+            0x000c, // kernel 1, phase 15, u13
+            0x0002, // kernel 1, phase 15, u14
+            0x0001, // kernel 1, phase 15, u15
+        ],
+    ],
+    [
+        [
+            0x8000, // kernel 2, phase 0, u0
+            0x0000,
+            0x0000,
+            0x0000,
             0x0000,
             0x0000,
             0x0000,
@@ -714,11 +660,29 @@ pub const PATHS: [[[u16; 16]; 16]; 3] = [
             0x0000,
         ],
         [
-            0x8000,
-            0xc000,
-            0xa000,
-            0xf000,
-            0x0800,
+            0x8000, // kernel 2, phase 1, u0
+            0x4000, // kernel 2, phase 1, u1
+            0x0000,
+            0x0000,
+            0x0000,
+            0x0000,
+            0x0000,
+            0x0000,
+            0x0000,
+            0x0000,
+            0x0000,
+            0x0000,
+            0x0000,
+            0x0000,
+            0x0000,
+            0x0000,
+        ],
+        [
+            0x8000, // kernel 2, phase 2, u0
+            0xc000, // kernel 2, phase 2, u1
+            0x2000, // kernel 2, phase 2, u2
+            0x0000,
+            0x0000,
             0x0000,
             0x0000,
             0x0000,
@@ -732,15 +696,33 @@ pub const PATHS: [[[u16; 16]; 16]; 3] = [
             0x0000,
         ],
         [
-            0x8000,
-            0xc000,
-            0xa000,
-            0xf000,
-            0x8800,
-            0x0080,
-            0xcc00,
-            0xaa00,
-            0xff00,
+            0x8000, // kernel 2, phase 3, u0
+            0xc000, // kernel 2, phase 3, u1
+            0x2000, // kernel 2, phase 3, u2
+            0x1000, // kernel 2, phase 3, u3
+            0x0000,
+            0x0000,
+            0x0000,
+            0x0000,
+            0x0000,
+            0x0000,
+            0x0000,
+            0x0000,
+            0x0000,
+            0x0000,
+            0x0000,
+            0x0000,
+        ],
+        [
+            0x8000, // kernel 2, phase 4, u0
+            0xc000, // kernel 2, phase 4, u1
+            0xa000, // kernel 2, phase 4, u2
+            0xf000, // kernel 2, phase 4, u3
+            0x0800, // kernel 2, phase 4, u4
+            0x0000,
+            0x0000,
+            0x0000,
+            0x0000,
             0x0000,
             0x0000,
             0x0000,
@@ -750,16 +732,16 @@ pub const PATHS: [[[u16; 16]; 16]; 3] = [
             0x0000,
         ],
         [
-            0x8000,
-            0xc000,
-            0xa000,
-            0xf000,
-            0x8800,
-            0x0080,
-            0x0040,
-            0xcc00,
-            0xaa40,
-            0xff00,
+            0x8000, // kernel 2, phase 5, u0
+            0xc000, // kernel 2, phase 5, u1
+            0xa000, // kernel 2, phase 5, u2
+            0xf000, // kernel 2, phase 5, u3
+            0x8800, // kernel 2, phase 5, u4
+            0x0080, // kernel 2, phase 5, u5
+            0xcc00, // kernel 2, phase 5, v5
+            0xaa00, // kernel 2, phase 5, v6
+            0xff00, // kernel 2, phase 5, v7
+            0x0000,
             0x0000,
             0x0000,
             0x0000,
@@ -768,17 +750,35 @@ pub const PATHS: [[[u16; 16]; 16]; 3] = [
             0x0000,
         ],
         [
-            0x8000,
-            0xc000,
-            0xa000,
-            0xf000,
-            0x8800,
-            0x0080,
-            0x00c0,
-            0x0020,
-            0xcc20,
+            0x8000, // kernel 2, phase 6, u0
+            0xc000, // kernel 2, phase 6, u1
+            0xa000, // kernel 2, phase 6, u2
+            0xf000, // kernel 2, phase 6, u3
+            0x8800, // kernel 2, phase 6, u4
+            0x0080, // kernel 2, phase 6, u5
+            0x0040, // kernel 2, phase 6, u6
+            0xcc00, // kernel 2, phase 6, v5
+            0xaa40, // kernel 2, phase 6, v6
+            0xff00, // kernel 2, phase 6, v7
+            0x0000,
+            0x0000,
+            0x0000,
+            0x0000,
+            0x0000,
+            0x0000,
+        ],
+        [
+            0x8000, // kernel 2, phase 7, u0
+            0xc000, // kernel 2, phase 7, u1
+            0xa000, // kernel 2, phase 7, u2
+            0xf000, // kernel 2, phase 7, u3
+            0x8800, // kernel 2, phase 7, u4
+            0x0080, // kernel 2, phase 7, u5
+            0x00c0, // kernel 2, phase 7, u6
+            0x0020, // kernel 2, phase 7, u7
+            0xcc20, // kernel 2, phase 7, v5
             0xaae0, // kernel 2, phase 7, v6
-            0xff00,
+            0xff00, // kernel 2, phase 7, v7
             0x0000,
             0x0000,
             0x0000,
@@ -786,35 +786,17 @@ pub const PATHS: [[[u16; 16]; 16]; 3] = [
             0x0000,
         ],
         [
-            0x0000,
-            0x0000,
-            0x0000,
-            0x0000,
-            0x0000,
-            0x0000,
-            0x0000,
-            0x0000,
-            0x0002,
-            0x0004,
-            0x0001,
-            0x0000,
-            0x0000,
-            0x0000,
-            0x0000,
-            0x0000,
-        ],
-        [
-            0x0000,
-            0x0000,
-            0x0000,
-            0x0000,
-            0x0000,
-            0x0000,
-            0x0000,
-            0x0002,
-            0x0002,
-            0x0002,
-            0x0001,
+            0x0000, // kernel 2, phase 8, u0
+            0x0000, // kernel 2, phase 8, u1
+            0x0000, // kernel 2, phase 8, u2
+            0x0000, // kernel 2, phase 8, u3
+            0x0000, // kernel 2, phase 8, u4
+            0x0000, // kernel 2, phase 8, u5
+            0x0000, // kernel 2, phase 8, u6
+            0x0000, // kernel 2, phase 8, u7
+            0x0002, // kernel 2, phase 8, u8
+            0x0004, // kernel 2, phase 8, v5
+            0x0001, // kernel 2, phase 8, v7
             0x0000,
             0x0000,
             0x0000,
@@ -822,17 +804,17 @@ pub const PATHS: [[[u16; 16]; 16]; 3] = [
             0x0000,
         ],
         [
-            0x0000,
-            0x0000,
-            0x0000,
-            0x0000,
-            0x0000,
-            0x0000,
-            0x0000,
-            0x0000,
-            0x0000,
-            0x0000,
-            0x0001,
+            0x0000, // kernel 2, phase 9, u0
+            0x0000, // kernel 2, phase 9, u1
+            0x0000, // kernel 2, phase 9, u2
+            0x0000, // kernel 2, phase 9, u3
+            0x0000, // kernel 2, phase 9, u4
+            0x0000, // kernel 2, phase 9, u5
+            0x0000, // kernel 2, phase 9, u6
+            0x0002, // kernel 2, phase 9, u7
+            0x0002, // kernel 2, phase 9, u8
+            0x0002, // kernel 2, phase 9, u9
+            0x0001, // kernel 2, phase 9, v7
             0x0000,
             0x0000,
             0x0000,
@@ -840,94 +822,112 @@ pub const PATHS: [[[u16; 16]; 16]; 3] = [
             0x0000,
         ],
         [
-            0x8000,
-            0xc000,
-            0xa000,
-            0xf000,
-            0x8800,
-            0x0080,
-            0x00c0,
-            0xcc00,
-            0x66c0,
-            0xcc20,
-            0xff00,
-            0x0010,
+            0x0000, // kernel 2, phase 10, u0
+            0x0000, // kernel 2, phase 10, u1
+            0x0000, // kernel 2, phase 10, u2
+            0x0000, // kernel 2, phase 10, u3
+            0x0000, // kernel 2, phase 10, u4
+            0x0000, // kernel 2, phase 10, u5
+            0x0000, // kernel 2, phase 10, u6
+            0x0000, // kernel 2, phase 10, u7
+            0x0000, // kernel 2, phase 10, u8
+            0x0000, // kernel 2, phase 10, u9
+            0x0001, // kernel 2, phase 10, u10
+            0x0000,
+            0x0000,
+            0x0000,
+            0x0000,
+            0x0000,
+        ],
+        [
+            0x8000, // kernel 2, phase 11, u0
+            0xc000, // kernel 2, phase 11, u1
+            0xa000, // kernel 2, phase 11, u2
+            0xf000, // kernel 2, phase 11, u3
+            0x8800, // kernel 2, phase 11, u4
+            0x0080, // kernel 2, phase 11, u5
+            0x00c0, // kernel 2, phase 11, u6
+            0xcc00, // kernel 2, phase 11, u7
+            0x66c0, // kernel 2, phase 11, u8
+            0xcc20, // kernel 2, phase 11, u9
+            0xff00, // kernel 2, phase 11, u10
+            0x0010, // kernel 2, phase 11, u11
             0x0000,
             0x0000,
             0x0000,
             0x0000,
         ],
         [
-            0x8000,
-            0xc000,
-            0xa000,
-            0xf000,
-            0x8800,
-            0x0080,
-            0x00c0,
-            0xcc00,
-            0x66c0,
-            0xcca0,
-            0xff00,
-            0x00f0,
-            0x0008,
+            0x8000, // kernel 2, phase 12, u0
+            0xc000, // kernel 2, phase 12, u1
+            0xa000, // kernel 2, phase 12, u2
+            0xf000, // kernel 2, phase 12, u3
+            0x8800, // kernel 2, phase 12, u4
+            0x0080, // kernel 2, phase 12, u5
+            0x00c0, // kernel 2, phase 12, u6
+            0xcc00, // kernel 2, phase 12, u7
+            0x66c0, // kernel 2, phase 12, u8
+            0xcca0, // kernel 2, phase 12, u9
+            0xff00, // kernel 2, phase 12, u10
+            0x00f0, // kernel 2, phase 12, u11
+            0x0008, // kernel 2, phase 12, u12
             0x0000,
             0x0000,
             0x0000,
         ],
         [
-            0x8000,
-            0xc000,
-            0xa000,
-            0xf000,
-            0x8800,
-            0x0080,
-            0x00c0,
-            0xcc00,
-            0x66c0,
-            0xcca0,
-            0xff00,
-            0x00f0,
-            0x0008,
-            0x0004,
+            0x8000, // kernel 2, phase 13, u0
+            0xc000, // kernel 2, phase 13, u1
+            0xa000, // kernel 2, phase 13, u2
+            0xf000, // kernel 2, phase 13, u3
+            0x8800, // kernel 2, phase 13, u4
+            0x0080, // kernel 2, phase 13, u5
+            0x00c0, // kernel 2, phase 13, u6
+            0xcc00, // kernel 2, phase 13, u7
+            0x66c0, // kernel 2, phase 13, u8
+            0xcca0, // kernel 2, phase 13, u9
+            0xff00, // kernel 2, phase 13, u10
+            0x00f0, // kernel 2, phase 13, u11
+            0x0008, // kernel 2, phase 13, u12
+            0x0004, // kernel 2, phase 13, u13
             0x0000,
             0x0000,
         ],
         [
-            0x8000,
-            0xc000,
-            0xa000,
-            0xf000,
-            0x8800,
-            0x0080,
-            0x00c0,
-            0xcc00,
-            0x66c0,
-            0xcca0,
-            0xff00,
-            0x00f0,
-            0x0008,
-            0x000c,
-            0x0002,
+            0x8000, // kernel 2, phase 14, u0
+            0xc000, // kernel 2, phase 14, u1
+            0xa000, // kernel 2, phase 14, u2
+            0xf000, // kernel 2, phase 14, u3
+            0x8800, // kernel 2, phase 14, u4
+            0x0080, // kernel 2, phase 14, u5
+            0x00c0, // kernel 2, phase 14, u6
+            0xcc00, // kernel 2, phase 14, u7
+            0x66c0, // kernel 2, phase 14, u8
+            0xcca0, // kernel 2, phase 14, u9
+            0xff00, // kernel 2, phase 14, u10
+            0x00f0, // kernel 2, phase 14, u11
+            0x0008, // kernel 2, phase 14, u12
+            0x000c, // kernel 2, phase 14, u13
+            0x0002, // kernel 2, phase 14, u14
             0x0000,
         ],
         [
-            0x8000,
-            0xc000,
-            0xa000,
-            0xf000,
-            0x8800,
-            0x0080,
-            0x00c0,
-            0xcc00,
-            0x66c0,
-            0xcca0,
-            0xff00,
-            0x00f0,
-            0x0008,
-            0x000c,
-            0x0002,
-            0x0001,
+            0x8000, // kernel 2, phase 15, u0
+            0xc000, // kernel 2, phase 15, u1
+            0xa000, // kernel 2, phase 15, u2
+            0xf000, // kernel 2, phase 15, u3
+            0x8800, // kernel 2, phase 15, u4
+            0x0080, // kernel 2, phase 15, u5
+            0x00c0, // kernel 2, phase 15, u6
+            0xcc00, // kernel 2, phase 15, u7
+            0x66c0, // kernel 2, phase 15, u8
+            0xcca0, // kernel 2, phase 15, u9
+            0xff00, // kernel 2, phase 15, u10
+            0x00f0, // kernel 2, phase 15, u11
+            0x0008, // kernel 2, phase 15, u12
+            0x000c, // kernel 2, phase 15, u13
+            0x0002, // kernel 2, phase 15, u14
+            0x0001, // kernel 2, phase 15, u15
         ],
     ],
 ];

@@ -9,7 +9,9 @@ use answer::Answer;
 
 // The 256 phases by falling product of their rows' partial distances, equal products by falling phase.
 const ORDER: [u8; 256] = [
+    // product 256
     255,
+    // product 128
     254,
     253,
     251,
@@ -18,10 +20,12 @@ const ORDER: [u8; 256] = [
     223,
     191,
     175,
+    // product 96
     249,
     248,
     159,
     143,
+    // product 64
     252,
     247,
     246,
@@ -46,6 +50,7 @@ const ORDER: [u8; 256] = [
     127,
     111,
     63,
+    // product 48
     233,
     232,
     217,
@@ -62,10 +67,12 @@ const ORDER: [u8; 256] = [
     141,
     139,
     138,
+    // product 36
     153,
     152,
     137,
     136,
+    // product 32
     245,
     244,
     242,
@@ -106,6 +113,7 @@ const ORDER: [u8; 256] = [
     58,
     47,
     31,
+    // product 24
     201,
     200,
     156,
@@ -122,6 +130,7 @@ const ORDER: [u8; 256] = [
     104,
     57,
     56,
+    // product 16
     240,
     229,
     228,
@@ -172,6 +181,7 @@ const ORDER: [u8; 256] = [
     27,
     26,
     15,
+    // product 12
     149,
     148,
     146,
@@ -188,6 +198,7 @@ const ORDER: [u8; 256] = [
     40,
     25,
     24,
+    // product 8
     224,
     208,
     197,
@@ -228,10 +239,12 @@ const ORDER: [u8; 256] = [
     13,
     11,
     10,
+    // product 6
     144,
     128,
     9,
     8,
+    // product 4
     192,
     112,
     96,
@@ -256,6 +269,7 @@ const ORDER: [u8; 256] = [
     7,
     6,
     3,
+    // product 2
     80,
     64,
     32,
@@ -264,6 +278,7 @@ const ORDER: [u8; 256] = [
     4,
     2,
     1,
+    // product 1
     0,
 ];
 
