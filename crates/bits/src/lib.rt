@@ -7,7 +7,7 @@ ghost use Rattle.base.specs.Bit;
 ghost use Rattle.bits.specs.Packed.{bits, unpack};
 
 // Bit i of sixteen.
-pub fn word_bit(x: u16, i: usize) -> bool
+pub fn word_bit(x: u32, i: usize) -> bool
     requires { ⌜ i < 16 ⌝ }
     ensures { λ r. ⌜ r ≡ Bit.bit (bits 16 x) i ⌝ }
 {

@@ -19,22 +19,22 @@ use Rattle.kernel.specs.Kernels.{kernelCode}
 use Rattle.kernel.specs.Jobs.{isKernel}
 use Rattle.kernel.proofs.Checks.{kernel-below}
 use Rattle.kernel.proofs.Distances.{kernel-zero}
-use Rattle.follow.specs.Jobs.{followChecks, kernelFollow}
+use Rattle.follow.specs.Jobs.{kernelFollowChecks, kernelFollow}
 use Rattle.follow.proofs.Accepted.{accepted-job}
 
 module _ (k : ℕ) (out : List ℤ) (lk : k < 3) (room : 16 ≤ length out) where
   known : not (isKernel k) ≡ false
   known = ap not (sym (kernel-below k) ∙ lt-ltb k 3 lk)
 
-  zeros-accepted : isAccepted (settle (followChecks k (replicate 16 (pos 0)) (length out)) done) ≡ true
-  unfolding followChecks firstOutside
+  zeros-accepted : isAccepted (settle (kernelFollowChecks k (replicate 16 (pos 0)) (length out)) done) ≡ true
+  unfolding kernelFollowChecks firstOutside
   zeros-accepted =
-      ap isAccepted (settle-none (followChecks k (replicate 16 (pos 0)) (length out)) done (known, (refl, (le-ltb (length out) 16 room, (refl, tt)))))
+      ap isAccepted (settle-none (kernelFollowChecks k (replicate 16 (pos 0)) (length out)) done (known, (refl, (le-ltb (length out) 16 room, (refl, tt)))))
 
-  ones-accepted : isAccepted (settle (followChecks k (replicate 16 (pos 1)) (length out)) done) ≡ true
-  unfolding followChecks firstOutside
+  ones-accepted : isAccepted (settle (kernelFollowChecks k (replicate 16 (pos 1)) (length out)) done) ≡ true
+  unfolding kernelFollowChecks firstOutside
   ones-accepted =
-      ap isAccepted (settle-none (followChecks k (replicate 16 (pos 1)) (length out)) done (known, (refl, (le-ltb (length out) 16 room, (refl, tt)))))
+      ap isAccepted (settle-none (kernelFollowChecks k (replicate 16 (pos 1)) (length out)) done (known, (refl, (le-ltb (length out) 16 room, (refl, tt)))))
 
   -- All values 0: all scores 0, whatever the symbols. What lies past the scores stays.
   pub all-zero : (symbols : ℕ) → kernelFollow k (replicate 16 (pos 0)) symbols out ≡ (done, replicate 16 (pos 0) ++ drop 16 out)

@@ -29,7 +29,7 @@ use Rattle.order.specs.Order.{order, among, informationBits, markedPhases}
 use Rattle.order.specs.Jobs.{informationChecks, informationMask}
 use Rattle.order.proofs.Accepted
 use Rattle.windows.specs.Windows.{windows, solutions}
-use Rattle.follow.specs.Jobs.{followChecks, kernelFollow}
+use Rattle.follow.specs.Jobs.{kernelFollowChecks, kernelFollow}
 use Rattle.quantiser.specs.Marks.{valueAt, notFinite, firstNotFinite, lowest}
 use Rattle.quantiser.specs.Jobs.{marksChecks}
 use Rattle.quantiser.proofs.Accepted as Quantised
@@ -86,10 +86,10 @@ refusal-eq n i (refused n′ i′) t =
 unfoldable test : Case → Bool
 test (encoding k s w) = isKernel k && eqb (rowSum (getD table k []) (number (unit 16 s))) w
 test (following k value scores) =
-    isAccepted (settle (followChecks k (replicate 16 value) 16) done) && sameList sameScore (scoresBy k (channel (replicate 16 value)) (bits 16 0)) scores
+    isAccepted (settle (kernelFollowChecks k (replicate 16 value) 16) done) && sameList sameScore (scoresBy k (channel (replicate 16 value)) (bits 16 0)) scores
 test (ending k value score) =
-    isAccepted (settle (followChecks k (replicate 16 value) 16) done) && sameScore (getD (scoresBy k (channel (replicate 16 value)) (bits 16 0)) 15 (pos 0)) score
-test (valueRefused k i value n) = isRefusal n i (settle (followChecks k (set (replicate 16 (pos 0)) i value) 16) done)
+    isAccepted (settle (kernelFollowChecks k (replicate 16 value) 16) done) && sameScore (getD (scoresBy k (channel (replicate 16 value)) (bits 16 0)) 15 (pos 0)) score
+test (valueRefused k i value n) = isRefusal n i (settle (kernelFollowChecks k (set (replicate 16 (pos 0)) i value) 16) done)
 test (masking p phases) = isAccepted (settle (informationChecks p 32) done) && sameList eqb (markedPhases (informationBits p)) phases
 test (sizeRefused p n) = isRefusal n 0 (settle (informationChecks p 32) done)
 test (quantising minus m e value) =
@@ -99,7 +99,7 @@ test (quantising minus m e value) =
     && sameList sameScore (tabulate 256 (valueAt xs (replicate 16 0))) (replicate 256 value)
 
 -- Where kernel follow accepts sixteen equal values, it leaves the scores as computed.
-followed : (k : ℕ) (value : ℤ) → isAccepted (settle (followChecks k (replicate 16 value) 16) done) ≡ true
+followed : (k : ℕ) (value : ℤ) → isAccepted (settle (kernelFollowChecks k (replicate 16 value) 16) done) ≡ true
     → kernelFollow k (replicate 16 value) 0 (replicate 16 (pos 0)) ≡ (done, scoresBy k (channel (replicate 16 value)) (bits 16 0))
 followed k value a =
     let values = replicate 16 value in
@@ -108,13 +108,13 @@ followed k value a =
     accepted-job k values 0 (replicate 16 (pos 0)) a (channel values) (λ j b l. refl) found found (sym by) (sym (append-nil found))
 
 -- A refused job answers its refusal and leaves its buffer.
-value-refused : (k i : ℕ) (value : ℤ) (n : ℕ) → isRefusal n i (settle (followChecks k (set (replicate 16 (pos 0)) i value) 16) done) ≡ true
+value-refused : (k i : ℕ) (value : ℤ) (n : ℕ) → isRefusal n i (settle (kernelFollowChecks k (set (replicate 16 (pos 0)) i value) 16) done) ≡ true
     → (out : List ℤ) → length out ≡ 16 → kernelFollow k (set (replicate 16 (pos 0)) i value) 0 out ≡ (refused n i, out)
 unfolding kernelFollow
 value-refused k i value n t out e =
     let values = set (replicate 16 (pos 0)) i value in
     ap (λ (v : Verdict). (v, after v out (scores (kernelCode k) (channel values) (bits 16 0))))
-    (ap (λ m. settle (followChecks k values m) done) e ∙ refusal-eq n i _ t)
+    (ap (λ m. settle (kernelFollowChecks k values m) done) e ∙ refusal-eq n i _ t)
 
 size-refused : (p n : ℕ) → isRefusal n 0 (settle (informationChecks p 32) done) ≡ true
     → (out : List ℕ) → length out ≡ 32 → informationMask p out ≡ (refused n 0, out)
@@ -131,10 +131,10 @@ shown (encoding k s w) t =
     sym (kernel-passed k (word (encodedWord k u)) (h .0))
     ∙ ap word (sym (encoded-rows k u (kernel-lt k (h .0))) ∙ eqb-true (rowSum (getD table k []) u) w (h .1))
 shown (following k value scores) t =
-    let h = (and-eq-true-iff (isAccepted (settle (followChecks k (replicate 16 value) 16) done)) _) .0 t in
+    let h = (and-eq-true-iff (isAccepted (settle (kernelFollowChecks k (replicate 16 value) 16) done)) _) .0 t in
     followed k value (h .0) ∙ ap (λ (l : List ℤ). (done, l)) (list-eq sameScore score-eq _ scores (h .1))
 shown (ending k value score) t =
-    let h = (and-eq-true-iff (isAccepted (settle (followChecks k (replicate 16 value) 16) done)) _) .0 t in
+    let h = (and-eq-true-iff (isAccepted (settle (kernelFollowChecks k (replicate 16 value) 16) done)) _) .0 t in
     let job = followed k value (h .0) in
     (ap (λ r. r .0) job, ap (λ r. getD (r .1) 15 (pos 0)) job ∙ score-eq _ score (h .1))
 shown (valueRefused k i value n) t = λ out e. value-refused k i value n t out e
@@ -165,5 +165,5 @@ all-shown (c ∷ cs) t =
     (shown c (h .0), all-shown cs (h .1))
 
 pub starred-hold : AllHold starred
-unfolding tests test isRefusal isKernel chosenSum bits number tabulate parity sameScore sameList followChecks firstOutside scoresBy leastBy pathBy leastTo windows solutions symbols sumOf folded blocks arikan every informationChecks informationBits markedPhases among order unpack marksChecks firstNotFinite notFinite lowest valueAt rounded fits
+unfolding tests test isRefusal isKernel chosenSum bits number tabulate parity sameScore sameList kernelFollowChecks firstOutside scoresBy leastBy pathBy leastTo windows solutions symbols sumOf folded blocks arikan every informationChecks informationBits markedPhases among order unpack marksChecks firstNotFinite notFinite lowest valueAt rounded fits
 starred-hold = all-shown starred refl

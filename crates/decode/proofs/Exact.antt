@@ -25,7 +25,7 @@ use Rattle.polar.specs.Follow.{scores, penalties}
 use Rattle.polar.proofs.Follow.{length-scores, length-penalties, length-decode}
 use Rattle.polar.proofs.Exact.{score-exact, penalty-exact, marked-sign, unmarked-zero}
 use Rattle.frame.specs.Frames.{frameCode}
-use Rattle.decode.specs.Jobs.{followChecks, frameFollow, decodeChecks, decided, frameDecode}
+use Rattle.decode.specs.Jobs.{frameFollowChecks, frameFollow, frameDecodeChecks, decided, frameDecode}
 use Rattle.decode.specs.Exact.{FrameExact, BySigns}
 
 -- What an accepted job leaves of the scores and penalties of 256 symbols is exact.
@@ -50,9 +50,9 @@ frame-exact a b values u e v ok scores₀ penalties₀ =
 -- are exact for the given symbols at all phases.
 pub frame-follow-exact : (a b : ℕ) (values : List ℤ) (symbols : List ℕ) (scores₀ : List ℤ) (penalties₀ : List ℕ)
     → let r = frameFollow a b values symbols scores₀ penalties₀ in r .0 ≡ done → FrameExact a b values (unpack symbols) scores₀ (r .1) penalties₀ (r .2)
-unfolding frameFollow followChecks
+unfolding frameFollow frameFollowChecks
 frame-follow-exact a b values symbols scores₀ penalties₀ ok =
-    let n = none-of (followChecks a b values (length symbols) (length scores₀) (length penalties₀)) done (ap isAccepted ok) in
+    let n = none-of (frameFollowChecks a b values (length symbols) (length scores₀) (length penalties₀)) done (ap isAccepted ok) in
     let h = or-eq-false (not (eqb (length values) 256)) (not (eqb (length symbols) 32)) (n .1 .0) in
     let long : length symbols ≡ 32 = eqb-true (length symbols) 32 (not-false _ (h .1)) in
     frame-exact a b values (unpack symbols) (length-unpack symbols ∙ ap (λ n. 8 * n) long) _ ok scores₀ penalties₀
@@ -71,13 +71,13 @@ payload-at l n e v ok old j h =
 pub frame-decode-exact : (a b : ℕ) (values : List ℤ) (mask : List ℕ) (scores₀ : List ℤ) (penalties₀ payload₀ : List ℕ)
     → let r = frameDecode a b values mask scores₀ penalties₀ payload₀ in r .0 ≡ done
     → FrameExact a b values (decided a b values mask) scores₀ (r .1) penalties₀ (r .2) × BySigns mask (decided a b values mask) (r .1) payload₀ (r .3)
-unfolding frameDecode decodeChecks decided marked
+unfolding frameDecode frameDecodeChecks decided marked
 frame-decode-exact a b values mask scores₀ penalties₀ payload₀ ok =
     let C = frameCode a b in
     let m = channel values in
     let marks = unpack mask in
     let u = decided a b values mask in
-    let n = none-of (decodeChecks a b values mask (length scores₀) (length penalties₀) (length payload₀)) done (ap isAccepted ok) in
+    let n = none-of (frameDecodeChecks a b values mask (length scores₀) (length penalties₀) (length payload₀)) done (ap isAccepted ok) in
     let h = or-eq-false (not (eqb (length values) 256)) (not (eqb (length mask) 32)) (n .1 .0) in
     let long : length mask ≡ 32 = eqb-true (length mask) 32 (not-false _ (h .1)) in
     let lm : length marks ≡ 256 = length-unpack mask ∙ ap (λ n. 8 * n) long in

@@ -22,30 +22,30 @@ valueCheck values = conditionAt 6 (firstOutside 127 values) (ltb (firstOutside 1
 
 -- The checks of frame follow, in checking order: the pair, the lengths of values and symbols, the room for scores and
 -- penalties, and a value outside the range.
-unfoldable pub followChecks : ℕ → ℕ → List ℤ → ℕ → ℕ → ℕ → List Check
-followChecks a b values sent room room′ =
+unfoldable pub frameFollowChecks : ℕ → ℕ → List ℤ → ℕ → ℕ → ℕ → List Check
+frameFollowChecks a b values symbolBytes scoreRoom penaltyRoom =
     condition 1 (not (isPair a b))
-    ∷ condition 2 (not (eqb (length values) 256) || not (eqb sent 32))
-    ∷ condition 5 (ltb room 256 || ltb room′ 256)
+    ∷ condition 2 (not (eqb (length values) 256) || not (eqb symbolBytes 32))
+    ∷ condition 5 (ltb scoreRoom 256 || ltb penaltyRoom 256)
     ∷ valueCheck values
     ∷ []
 
 -- Frame follow: pair, 256 values and 256 symbols to 256 scores and 256 penalties. All of them are those of the frame's code
 -- over the costs of the channel values and the whole list of symbols.
 unfoldable pub frameFollow : ℕ → ℕ → List ℤ → List ℕ → List ℤ → List ℕ → Verdict × List ℤ × List ℕ
-frameFollow a b values symbols scored summed =
-    let v = settle (followChecks a b values (length symbols) (length scored) (length summed)) done in
+frameFollow a b values symbols oldScores oldPenalties =
+    let v = settle (frameFollowChecks a b values (length symbols) (length oldScores) (length oldPenalties)) done in
     let u = unpack symbols in
-    (v, after v scored (scores (frameCode a b) (channel values) u), after v summed (penalties (frameCode a b) (channel values) u))
+    (v, after v oldScores (scores (frameCode a b) (channel values) u), after v oldPenalties (penalties (frameCode a b) (channel values) u))
 
 -- The checks of frame decode, in checking order: the pair, the lengths of values and mask, the mask, the room for scores,
 -- penalties and payload, and a value outside the range.
-unfoldable pub decodeChecks : ℕ → ℕ → List ℤ → List ℕ → ℕ → ℕ → ℕ → List Check
-decodeChecks a b values mask room room′ room″ =
+unfoldable pub frameDecodeChecks : ℕ → ℕ → List ℤ → List ℕ → ℕ → ℕ → ℕ → List Check
+frameDecodeChecks a b values mask scoreRoom penaltyRoom payloadRoom =
     condition 1 (not (isPair a b))
     ∷ condition 2 (not (eqb (length values) 256) || not (eqb (length mask) 32))
     ∷ condition 3 (badMask mask)
-    ∷ condition 5 (ltb room 256 || ltb room′ 256 || ltb room″ (marked mask / 8))
+    ∷ condition 5 (ltb scoreRoom 256 || ltb penaltyRoom 256 || ltb payloadRoom (marked mask / 8))
     ∷ valueCheck values
     ∷ []
 
@@ -57,11 +57,11 @@ decided a b values mask = decode (frameCode a b) (channel values) (bit (unpack m
 -- Frame decode: pair, 256 values and mask to the scores and penalties of the decoder's symbols, and the payload: its symbols at
 -- the marked phases in rising order.
 unfoldable pub frameDecode : ℕ → ℕ → List ℤ → List ℕ → List ℤ → List ℕ → List ℕ → Verdict × List ℤ × List ℕ × List ℕ
-frameDecode a b values mask scored summed payload =
-    let v = settle (decodeChecks a b values mask (length scored) (length summed) (length payload)) done in
+frameDecode a b values mask oldScores oldPenalties oldPayload =
+    let v = settle (frameDecodeChecks a b values mask (length oldScores) (length oldPenalties) (length oldPayload)) done in
     let u = decided a b values mask in (
       v,
-      after v scored (scores (frameCode a b) (channel values) u),
-      after v summed (penalties (frameCode a b) (channel values) u),
-      after v payload (pack (marked mask / 8) (gather (unpack mask) u)),
+      after v oldScores (scores (frameCode a b) (channel values) u),
+      after v oldPenalties (penalties (frameCode a b) (channel values) u),
+      after v oldPayload (pack (marked mask / 8) (gather (unpack mask) u)),
     )

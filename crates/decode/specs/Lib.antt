@@ -1,3 +1,2 @@
-pub mod Run
 pub mod Jobs
 pub mod Exact

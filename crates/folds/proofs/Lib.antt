@@ -1,5 +1,5 @@
 pub mod Fill
-pub mod Lacking
+pub mod Shortfall
 pub mod Pairs
 pub mod Range
 pub mod Rows

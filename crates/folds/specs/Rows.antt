@@ -9,9 +9,13 @@ use lib.Signed.{_≤ℤ_}
 use Rattle.base.specs.Bit.{digit}
 use Rattle.polar.specs.Code.{Costs}
 
+-- Of two rows that of bit b.
+abbrev pub rowOf : {X : Type 0} → List (List X) → Bool → List X
+rowOf rows b = getD rows (digit b) []
+
 -- Entry j of the row of bit b, o past the end.
 abbrev pub cell : {X : Type 0} → X → List (List X) → ℕ → Bool → X
-cell o rows j b = getD (getD rows (digit b) []) j o
+cell o rows j b = getD (rowOf rows b) j o
 
 -- Row 0 has what each place pays for bit 0, row 1 what it pays for bit 1.
 abbrev pub costsOf : List (List ℕ) → Costs
@@ -22,8 +26,8 @@ abbrev pub Within : ℕ → List (List ℕ) → Type 0
 Within n rows = (j : ℕ) (b : Bool) → costsOf rows j b ≤ n
 
 -- The second of two numbers where the bit is set, else the first.
-abbrev pub two : ℕ → ℕ → Bool → ℕ
-two x y c = elim c [ true ↦ y | false ↦ x ]
+abbrev pub select : ℕ → ℕ → Bool → ℕ
+select x y c = elim c [ true ↦ y | false ↦ x ]
 
 -- Place j pays the one for bit 0 and the other for bit 1.
 abbrev pub Pays : Costs → ℕ → ℕ → ℕ → Type 0

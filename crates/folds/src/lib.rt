@@ -9,7 +9,7 @@ ghost use Rattle.bits.specs.Packed.{bits};
 ghost use Rattle.polar.specs.Code.{channel};
 ghost use Rattle.polar.specs.Fold.{freeFold, knownFold};
 ghost use Rattle.folds.specs.Range.{firstOutside};
-ghost use Rattle.folds.specs.Rows.{costsOf, Within, IsGreatest, two, Pays};
+ghost use Rattle.folds.specs.Rows.{costsOf, Within, IsGreatest, select, Pays};
 
 // The lowest index whose value lies outside -2047 to 2047, or the number of values.
 pub fn first_outside(values: &[i16]) -> usize
@@ -62,24 +62,16 @@ fn lower(a: u32, b: u32) -> u32
     requires { ⌜ (a ≤ 33554432) × (b ≤ 33554432) ⌝ }
     ensures { λ r. ⌜ r ≡ min a b ⌝ }
 {
-    (b as i32 + short_of(a, b)) as u32
+    (b as i32 + negative_difference(a, b)) as u32
 }
 
-// Minus what a number lacks of another.
-fn short_of(a: u32, b: u32) -> i32
+// The difference of two numbers where it is negative, else 0.
+fn negative_difference(a: u32, b: u32) -> i32
     requires { ⌜ (a ≤ 33554432) × (b ≤ 33554432) ⌝ }
     ensures { λ r. ⌜ r ≡ negℤ (pos (b - a)) ⌝ }
 {
     let d = a as i32 - b as i32;
     if d < 0 { d } else { 0 }
-}
-
-// Bit i of sixteen.
-pub fn bit_of(x: u32, i: usize) -> bool
-    requires { ⌜ i < 16 ⌝ }
-    ensures { λ r. ⌜ r ≡ Bit.bit (bits 16 x) i ⌝ }
-{
-    (x >> (15 - i)) % 2 == 1
 }
 
 // What a place pays for bit 0 and for bit 1.
@@ -90,7 +82,7 @@ pub struct Pair {
 
 // One of two numbers.
 fn pick(c: bool, x: u32, y: u32) -> u32
-    ensures { λ r. ⌜ r ≡ two x y c ⌝ }
+    ensures { λ r. ⌜ r ≡ select x y c ⌝ }
 {
     if c { y } else { x }
 }
@@ -98,7 +90,7 @@ fn pick(c: bool, x: u32, y: u32) -> u32
 // Two places folded onto one, the first one's bit being known.
 fn known(bit: bool, p: Pair, q: Pair) -> Pair
     requires { ⌜ (p .zero ≤ 16777216) × (p .one ≤ 16777216) × (q .zero ≤ 16777216) × (q .one ≤ 16777216) ⌝ }
-    ensures { λ r. ⌜ (r .zero ≡ two (p .zero) (p .one) bit + q .zero) × (r .one ≡ two (p .one) (p .zero) bit + q .one) ⌝ }
+    ensures { λ r. ⌜ (r .zero ≡ select (p .zero) (p .one) bit + q .zero) × (r .one ≡ select (p .one) (p .zero) bit + q .one) ⌝ }
 {
     Pair {
         zero: pick(bit, p.zero, p.one) + q.zero,
@@ -129,11 +121,11 @@ fn free_one(p: Pair, q: Pair) -> Pair
 }
 
 // Two places folded onto one, where the first one's bit may be known.
-pub fn fold_pair(sure: bool, bit: bool, p: Pair, q: Pair) -> Pair
+pub fn fold_pair(first_known: bool, bit: bool, p: Pair, q: Pair) -> Pair
     requires { ⌜ (p .zero ≤ 16777216) × (p .one ≤ 16777216) × (q .zero ≤ 16777216) × (q .one ≤ 16777216) ⌝ }
-    ensures { λ r. ⌜ (sure ≡ true → (r .zero ≡ two (p .zero) (p .one) bit + q .zero) × (r .one ≡ two (p .one) (p .zero) bit + q .one)) × (sure ≡ false → (r .zero ≡ min (p .zero + q .zero) (p .one + q .one)) × (r .one ≡ min (p .one + q .zero) (p .zero + q .one))) ⌝ }
+    ensures { λ r. ⌜ («first_known» ≡ true → (r .zero ≡ select (p .zero) (p .one) bit + q .zero) × (r .one ≡ select (p .one) (p .zero) bit + q .one)) × («first_known» ≡ false → (r .zero ≡ min (p .zero + q .zero) (p .one + q .one)) × (r .one ≡ min (p .one + q .zero) (p .zero + q .one))) ⌝ }
 {
-    if sure {
+    if first_known {
         known(bit, p, q)
     } else {
         free_one(p, q)
@@ -155,7 +147,7 @@ fn known_at(rows: &[[u32; 16]; 2], word: u32, i: usize) -> Pair
     requires { ⌜ (i < 8) × Within 65536 (now rows) ⌝ }
     ensures { λ r. ⌜ Pays (knownFold 8 (Bit.bit (bits 16 word)) (costsOf (now (rows .entry)))) i (r .zero) (r .one) ⌝ }
 {
-    known(bit_of(word, i), place(rows, i), place(rows, 8 + i))
+    known(bits::word_bit(word, i), place(rows, i), place(rows, 8 + i))
 }
 
 // Place i of the first half, the second half being free.
@@ -196,7 +188,7 @@ pub fn free_known(rows: &[[u32; 16]; 2], word: u32) -> [[u32; 4]; 2]
     while i < 4 {
         let p = free_at(rows, i);
         let q = free_at(rows, 4 + i);
-        let folded = known(bit_of(word, i), p, q);
+        let folded = known(bits::word_bit(word, i), p, q);
         let zero = folded.zero;
         let one = folded.one;
         out[0][i] = zero;
@@ -236,7 +228,7 @@ pub fn known_known(rows: &[[u32; 16]; 2], word: u32) -> [[u32; 4]; 2]
     while i < 4 {
         let p = known_at(rows, word, i);
         let q = known_at(rows, word, 4 + i);
-        let folded = known(bit_of(word, 8 + i), p, q);
+        let folded = known(bits::word_bit(word, 8 + i), p, q);
         let zero = folded.zero;
         let one = folded.one;
         out[0][i] = zero;

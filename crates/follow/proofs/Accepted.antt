@@ -1,5 +1,5 @@
 -- What the acceptance of kernel follow's checks yields, and what the job leaves. Assumes nothing.
-use mathlib.Core.Path.{_≡_, sym, ap, ap₂, _∙_}
+use mathlib.Core.Path.{_≡_, refl, sym, ap, ap₂, _∙_}
 use mathlib.Core.Bool.{Bool, true, false}
 use mathlib.Core.List.{List, _++_}
 use Prim.Native.Nat.{ℕ, _≤_, _<_}
@@ -7,8 +7,10 @@ use native.Mathlib.Omega.{arith}
 use borrow.Author.Tests.{not-false, eqb-true, ltb-false}
 use lib.IntN.{ℤ}
 use lib.ListN.{length, drop}
+use lib.Seq.{paste, take-all}
+use Rattle.base.specs.Bit.{bit}
 use Rattle.bits.specs.Packed.{bits}
-use Rattle.bits.proofs.Packed.{length-bits}
+use Rattle.bits.proofs.Packed.{length-bits, zero-at}
 use Rattle.answer.specs.Verdict.{Verdict, done, isAccepted, settle, after}
 use Rattle.answer.proofs.Settle.{None, none-of, settle-none, after-refused}
 use Rattle.polar.specs.Code.{Costs, channel}
@@ -18,7 +20,9 @@ use Rattle.folds.specs.Range.{firstOutside}
 use Rattle.folds.proofs.Range.{outside-le}
 use Rattle.kernel.specs.Kernels.{kernelCode}
 use Rattle.kernel.proofs.Checks.{kernel-lt}
-use Rattle.follow.specs.Jobs.{followChecks, kernelFollow}
+use Rattle.run.specs.Run.{KernelRun}
+use Rattle.run.proofs.Symbols.{given-only}
+use Rattle.follow.specs.Jobs.{kernelFollowChecks, kernelFollow}
 
 -- Inputs that pass all checks.
 pub record Accepted (k : ℕ) (values : List ℤ) (room : ℕ) : Type 0 where
@@ -27,8 +31,8 @@ pub record Accepted (k : ℕ) (values : List ℤ) (room : ℕ) : Type 0 where
   pub room-enough : 16 ≤ room
   pub inside : firstOutside 2047 values ≡ 16
 
-passes : (k : ℕ) (values : List ℤ) (room : ℕ) → None (followChecks k values room) → Accepted k values room
-unfolding followChecks
+passes : (k : ℕ) (values : List ℤ) (room : ℕ) → None (kernelFollowChecks k values room) → Accepted k values room
+unfolding kernelFollowChecks
 passes k values room n =
     let e = eqb-true (length values) 16 (not-false _ (n .1 .0)) in
     let l = ltb-false (firstOutside 2047 values) (length values) (n .1 .1 .1 .0) in
@@ -39,17 +43,17 @@ passes k values room n =
       inside = omega (arith, outside-le 2047 values);
     }
 
-module _ (k : ℕ) (values : List ℤ) (room : ℕ) (a : isAccepted (settle (followChecks k values room) done) ≡ true) where
+module _ (k : ℕ) (values : List ℤ) (room : ℕ) (a : isAccepted (settle (kernelFollowChecks k values room) done) ≡ true) where
   -- Where the checks accept, the inputs pass them,
   pub accepted : Accepted k values room
-  accepted = passes k values room (none-of (followChecks k values room) done a)
+  accepted = passes k values room (none-of (kernelFollowChecks k values room) done a)
 
   -- and the verdict is that all is done.
-  pub accepted-done : settle (followChecks k values room) done ≡ done
-  accepted-done = settle-none (followChecks k values room) done (none-of (followChecks k values room) done a)
+  pub accepted-done : settle (kernelFollowChecks k values room) done ≡ done
+  accepted-done = settle-none (kernelFollowChecks k values room) done (none-of (kernelFollowChecks k values room) done a)
 
 -- A refused job leaves its buffer.
-pub refused-job : (k : ℕ) (values : List ℤ) (symbols : ℕ) (out : List ℤ) (v : Verdict) → v ≡ settle (followChecks k values (length out)) done
+pub refused-job : (k : ℕ) (values : List ℤ) (symbols : ℕ) (out : List ℤ) (v : Verdict) → v ≡ settle (kernelFollowChecks k values (length out)) done
     → isAccepted v ≡ false → kernelFollow k values symbols out ≡ (v, out)
 unfolding kernelFollow
 refused-job k values symbols out v e r =
@@ -57,7 +61,7 @@ refused-job k values symbols out v e r =
     ap (λ (x : Verdict). (x, after x out new)) (sym e) ∙ ap (λ (l : List ℤ). (v, l)) (after-refused v out new r)
 
 -- An accepted job leaves the scores and what lies past them.
-pub accepted-job : (k : ℕ) (values : List ℤ) (symbols : ℕ) (out : List ℤ) → isAccepted (settle (followChecks k values (length out)) done) ≡ true
+pub accepted-job : (k : ℕ) (values : List ℤ) (symbols : ℕ) (out : List ℤ) → isAccepted (settle (kernelFollowChecks k values (length out)) done) ≡ true
     → (m : Costs) → ((j : ℕ) (b : Bool) → j < 16 → m j b ≡ channel values j b)
     → (found last : List ℤ) → found ≡ scores (kernelCode k) m (bits 16 symbols) → last ≡ found ++ drop 16 out
     → kernelFollow k values symbols out ≡ (done, last)
@@ -69,3 +73,15 @@ accepted-job k values symbols out a m h found last f l =
     let long : length new ≡ 16 = length-scores (kernelCode k) (channel values) u ∙ length-bits 16 symbols in
     ap (λ (x : Verdict). (x, after x out new)) (accepted-done k values (length out) a)
     ∙ ap (λ (l : List ℤ). (done, l)) (ap₂ (λ (x : List ℤ) n. x ++ drop n out) (sym same) long ∙ sym l)
+
+-- So does a run with nothing free and these symbols given.
+pub run-job : (k : ℕ) (values : List ℤ) (symbols : ℕ) (out : List ℤ) → isAccepted (settle (kernelFollowChecks k values (length out)) done) ≡ true
+    → (x : ℕ) (found : List ℤ) (paid : List ℕ) → KernelRun k values 0 symbols 0 x found paid → (last : List ℤ) → last ≡ paste out 0 found 16
+    → kernelFollow k values symbols out ≡ (done, last)
+run-job k values symbols out a x found paid r last l =
+    let C = kernelCode k in
+    let u = bits 16 symbols in
+    let same : bits 16 x ≡ u = given-only C (channel values) (bit (bits 16 0)) (bits 16 x) u 16 (length-bits 16 x) (length-bits 16 symbols) (λ i _. zero-at 16 i) (r .symbols-by) in
+    let f : found ≡ scores C (channel values) u = r .scores-are ∙ ap (scores C (channel values)) same in
+    let lf : length found ≡ 16 = ap length f ∙ length-scores C (channel values) u ∙ length-bits 16 symbols in
+    accepted-job k values symbols out a (channel values) (λ j b _. refl) found last f (l ∙ ap (λ (t : List ℤ). t ++ drop 16 out) (take-all 16 found (omega arith)))

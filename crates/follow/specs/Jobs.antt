@@ -15,8 +15,8 @@ use Rattle.folds.specs.Range.{firstOutside}
 
 -- The checks of kernel follow, in checking order: the kernel number, the length of the values, the room for the scores,
 -- and a value outside -2047 to 2047, the lowest such index being the place.
-unfoldable pub followChecks : ℕ → List ℤ → ℕ → List Check
-followChecks k values room =
+unfoldable pub kernelFollowChecks : ℕ → List ℤ → ℕ → List Check
+kernelFollowChecks k values room =
     condition 1 (not (isKernel k))
     ∷ condition 2 (not (eqb (length values) 16))
     ∷ condition 5 (ltb room 16)
@@ -27,5 +27,5 @@ followChecks k values room =
 -- over the costs of the channel values and the whole list of symbols.
 unfoldable pub kernelFollow : ℕ → List ℤ → ℕ → List ℤ → Verdict × List ℤ
 kernelFollow k values symbols out =
-    let v = settle (followChecks k values (length out)) done in
+    let v = settle (kernelFollowChecks k values (length out)) done in
     (v, after v out (scores (kernelCode k) (channel values) (bits 16 symbols)))

@@ -12,7 +12,7 @@ use Rattle.base.proofs.List.{length-tabulate, tabulate-at, same-bits, filled}
 use Rattle.bits.specs.Packed.{bits, unpack, pack}
 use Rattle.bits.proofs.Packed.{bits-at, bits-mod, length-unpack, unpack-at, packed}
 use Rattle.kernel.specs.Rows.{rowBit}
-use Rattle.grid.specs.Grid.{rowsBits, byteOf, rowOf}
+use Rattle.grid.specs.Grid.{rowsBits, byteOf, byteRow}
 use Rattle.grid.proofs.Grid.{length-rows-bits}
 
 -- Bit t of byte h of a row.
@@ -48,17 +48,17 @@ pack-rows rows =
 
 -- The bytes of a row made of two bytes are these.
 row-byte : (bytes : List ℕ) (i h r : ℕ) → 2 * r + h ≡ i → h < 2 → getD bytes (2 * r) 0 < 256 → getD bytes (2 * r + 1) 0 < 256
-    → rowOf bytes r / 2 ^ (8 - 8 * h) % 2 ^ 8 ≡ getD bytes i 0
-row-byte bytes i zero r e l a b = let x : rowOf bytes r / 256 % 256 ≡ getD bytes (2 * r) 0 = omega arith in x ∙ ap (λ k. getD bytes k 0) (omega arith)
+    → byteRow bytes r / 2 ^ (8 - 8 * h) % 2 ^ 8 ≡ getD bytes i 0
+row-byte bytes i zero r e l a b = let x : byteRow bytes r / 256 % 256 ≡ getD bytes (2 * r) 0 = omega arith in x ∙ ap (λ k. getD bytes k 0) (omega arith)
 row-byte bytes i (suc zero) r e l a b =
-    let x : rowOf bytes r / 1 % 256 ≡ getD bytes (2 * r + 1) 0 = omega arith in x ∙ ap (λ k. getD bytes k 0) (omega arith)
+    let x : byteRow bytes r / 1 % 256 ≡ getD bytes (2 * r + 1) 0 = omega arith in x ∙ ap (λ k. getD bytes k 0) (omega arith)
 row-byte bytes i (suc (suc h)) r e l a b = absurd (omega arith)
 
 -- Rows made of bytes have their bits.
 pub rows-made : (bytes : List ℕ) → length bytes ≡ 32 → ((i : ℕ) → i < length bytes → getD bytes i 0 < 256)
-    → rowsBits (tabulate 16 (rowOf bytes)) ≡ unpack bytes
-rows-made bytes n h = sym (unpack-rows bytes (tabulate 16 (rowOf bytes)) n (λ i l.
+    → rowsBits (tabulate 16 (byteRow bytes)) ≡ unpack bytes
+rows-made bytes n h = sym (unpack-rows bytes (tabulate 16 (byteRow bytes)) n (λ i l.
     let r : ℕ = i / 2 in
     let lr : r < 16 = omega arith in
-    sym (ap (λ x. x / 2 ^ (8 - 8 * (i % 2)) % 2 ^ 8) (tabulate-at 16 (rowOf bytes) r 0 lr)
+    sym (ap (λ x. x / 2 ^ (8 - 8 * (i % 2)) % 2 ^ 8) (tabulate-at 16 (byteRow bytes) r 0 lr)
     ∙ row-byte bytes i (i % 2) r (omega arith) (omega arith) (h (2 * r) (omega arith)) (h (2 * r + 1) (omega arith)))))

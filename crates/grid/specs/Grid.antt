@@ -28,5 +28,5 @@ abbrev pub byteOf : List ℕ → ℕ → ℕ
 byteOf rows i = getD rows (i / 2) 0 / 2 ^ (8 - 8 * (i % 2)) % 2 ^ 8
 
 -- Row r of bytes.
-abbrev pub rowOf : List ℕ → ℕ → ℕ
-rowOf bytes r = getD bytes (2 * r) 0 * 256 + getD bytes (2 * r + 1) 0
+abbrev pub byteRow : List ℕ → ℕ → ℕ
+byteRow bytes r = getD bytes (2 * r) 0 * 256 + getD bytes (2 * r + 1) 0

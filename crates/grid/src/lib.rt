@@ -16,7 +16,7 @@ fn column_sum(rows: [u16; 16], choosing: [u16; 16], j: usize) -> u16
     let mut c: u16 = 0;
     let mut r: usize = 0;
     while r < 16 {
-        if bits::word_bit(choosing[r], j) {
+        if bits::word_bit(choosing[r] as u32, j) {
             c = c ^ rows[r];
         }
         r += 1;

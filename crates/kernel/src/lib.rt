@@ -147,7 +147,7 @@ pub fn row_sum(rows: [u16; 16], x: u16) -> u16
     let mut c: u16 = 0;
     let mut s: usize = 0;
     while s < 16 {
-        if bits::word_bit(x, s) {
+        if bits::word_bit(x as u32, s) {
             c = c ^ rows[s];
         }
         s += 1;

@@ -1,23 +1,18 @@
--- The edges of kernel follow: the difference of two scores, and a copy of scores to a buffer. Assumes nothing.
-use mathlib.Core.Path.{_≡_, ap, ap₂, _∙_}
+-- The difference of two scores, as the code takes it. Assumes nothing.
+use mathlib.Core.Path.{_≡_, ap₂, _∙_}
 use mathlib.Core.Bool.{Bool, true, false, cond}
-use mathlib.Core.List.{List, [], _++_}
+use mathlib.Core.List.{List, []}
 use Prim.Native.Nat.{ℕ, zero, suc, _+_, _-_, _≤_, _<_}
-use native.Mathlib.Nat.{zero-add}
-use native.Mathlib.Numerals.{add-one}
 use native.Mathlib.Omega.{arith}
 use lib.Dec.{ltb}
 use lib.IntN.{ℤ, pos, negsuc, natAbs, subℕ, _-ℤ_}
-use lib.ListN.{length, getD, take, drop, set}
-use lib.Seq.{paste-suc, take-all}
+use lib.ListN.{getD}
 use lib.Signed.{mag}
 use mir.Facts.{toZ-ofZ}
 use mir.Syntax.{w32}
 use mir.Val.{SFits, toZ, ofZ}
 use Rattle.folds.specs.Rows.{cell, IsGreatest}
-use Rattle.windows.specs.Paths.{Leads}
-
--- ---- the difference of two scores
+use Rattle.windows.specs.Paths.{IsDifference}
 
 -- A score as the code has it, in thirty-two bits.
 abbrev pub coded : ℤ → ℤ
@@ -63,25 +58,9 @@ module _ (rows : List (List ℤ)) (n : ℕ) (h : (w : ℕ) (b : Bool) → w < n 
   pub one-small : (y : ℤ) → IsGreatest (getD rows 1 []) n y → natAbs y ≤ 16777216
   one-small y g = greatest-small 16777216 (getD rows 1 []) n y (λ w. h w true) g
 
-  -- and that of row 0 less that of row 1 is the lead.
-  pub lead-is : (x y : ℤ) → IsGreatest (getD rows 0 []) n x → IsGreatest (getD rows 1 []) n y → Leads rows n (coded (coded x -ℤ coded y))
-  lead-is x y gx gy =
+  -- and that of row 0 less that of row 1 is their difference.
+  pub is-difference : (x y : ℤ) → IsGreatest (getD rows 0 []) n x → IsGreatest (getD rows 1 []) n y → IsDifference rows n (coded (coded x -ℤ coded y))
+  is-difference x y gx gy =
       let p = zero-small x gx in
       let q = one-small y gy in
       record { zero = x; one = y; zero-greatest = gx; one-greatest = gy; less = toZ-ofZ (less-fits x y p q) ∙ less-is x y p q }
-
--- ---- a copy to the front of a buffer
-
--- The buffer with its first i entries replaced.
-abbrev pub copied : List ℤ → List ℤ → ℕ → List ℤ
-copied found old i = take i found ++ drop i old
-
-module _ (found old : List ℤ) where
-  -- One more entry is stored.
-  pub copy-one : (out : List ℤ) (i : ℕ) (z : ℤ) → i < length found → i < length old → z ≡ getD found i (pos 0)
-      → out ≡ copied found old i → set out i z ≡ copied found old (i + 1)
-  copy-one out i z f o e c = rw (e, c, add-one) (simp zero-add at (paste-suc old 0 found i (pos 0) (rw zero-add o) f))
-
-  -- All of them are stored.
-  pub copy-all : (n : ℕ) → length found ≡ n → copied found old n ≡ found ++ drop n old
-  copy-all n e = ap (λ l. l ++ drop n old) (take-all n found (omega arith))

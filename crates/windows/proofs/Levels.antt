@@ -16,7 +16,7 @@ use Rattle.bits.specs.Packed.{bits}
 use Rattle.polar.specs.Code.{Costs}
 use Rattle.polar.specs.Fold.{freeFold, knownFold, level, folded}
 use Rattle.polar.proofs.Folded.{folded-costs}
-use Rattle.folds.specs.Rows.{costsOf, Within, two, Pays}
+use Rattle.folds.specs.Rows.{costsOf, Within, select, Pays}
 use Rattle.folds.proofs.Pairs.{known-pays, free-pays, known-le, free-le}
 use Rattle.windows.specs.Paths.{FourOf, lastLeast, pathLeast}
 
@@ -71,11 +71,11 @@ two-levels n y m b =
 -- for the symbol b of a path whose last v is c where the symbol is 0.
 pub turned : (n : ℕ) (y : ℕ → Bool) (m : Costs) (p q : ℕ)
     → Pays (level 1 (n % 2) (λ i. y (n / 2 * 2 + i)) (level 2 (n % 4) (λ i. y (n / 4 * 4 + i)) m)) 0 p q
-    → (c : Bool) → y n ≡ c → (b : Bool) → two p q (c ⊕ b) ≡ folded 2 (n % 4) (λ i. y (n / 4 * 4 + i)) m 0 (y n ⊕ b)
+    → (c : Bool) → y n ≡ c → (b : Bool) → select p q (c ⊕ b) ≡ folded 2 (n % 4) (λ i. y (n / 4 * 4 + i)) m 0 (y n ⊕ b)
 turned n y m p q h c e b =
     pays (c ⊕ b) ∙ two-levels n y m (c ⊕ b) ∙ ap (λ x. folded 2 (n % 4) (λ i. y (n / 4 * 4 + i)) m 0 (x ⊕ b)) (sym e)
   where
-    pays : (d : Bool) → two p q d ≡ level 1 (n % 2) (λ i. y (n / 2 * 2 + i)) (level 2 (n % 4) (λ i. y (n / 4 * 4 + i)) m) 0 d
+    pays : (d : Bool) → select p q d ≡ level 1 (n % 2) (λ i. y (n / 2 * 2 + i)) (level 2 (n % 4) (λ i. y (n / 4 * 4 + i)) m) 0 d
     pays false = h .0
     pays true = h .1
 
@@ -100,7 +100,7 @@ level-cases h n y m P f g = go (leb h n) f g
 
 -- The place that they become.
 pub level-pays : (h n j : ℕ) (y : ℕ → Bool) (m : Costs) (p q s t u v : ℕ) → Pays m j p q → Pays m (h + j) s t → (c : Bool) → c ≡ y j
-    → (leb h n ≡ true → (u ≡ two p q c + s) × (v ≡ two q p c + t)) × (leb h n ≡ false → (u ≡ min (p + s) (q + t)) × (v ≡ min (q + s) (p + t)))
+    → (leb h n ≡ true → (u ≡ select p q c + s) × (v ≡ select q p c + t)) × (leb h n ≡ false → (u ≡ min (p + s) (q + t)) × (v ≡ min (q + s) (p + t)))
     → Pays (level h n y m) j u v
 level-pays h n j y m p q s t u v first second c e k =
     level-cases h n y m (λ m. Pays m j u v)

@@ -25,7 +25,7 @@ use Rattle.kernel.proofs.Solved as kernels
 use Rattle.kernel.proofs.Undoing.{word-of-v, some-v}
 use Rattle.windows.specs.Windows.{window, solution}
 use Rattle.windows.specs.Tables.{shapeAt, pathRows}
-use Rattle.windows.specs.Paths.{Kept, Held, Choice, chosen, Leads}
+use Rattle.windows.specs.Paths.{Kept, Held, Choice, chosen, IsDifference}
 use Rattle.windows.proofs.Windows.{windowed}
 use Rattle.windows.proofs.Tables.{heightAt, shaped, fresh, again}
 use Rattle.windows.proofs.Paths.{fresh-least, old-number, again-path}
@@ -130,7 +130,7 @@ module _ (k s : ℕ) (lk : k < 3) (ls : s < 16) (m : Costs) (us : List Bool) (lu
           → getD (getD rows (digit b) []) w (pos 0) ≡ bestScore vCode m (pathOf (solution k i) (us ++ (b ∷ [])) (bits (length (window k i)) w))
 
   -- So the difference of the two rows' greatest is the score.
-  pub held-score : (rows : List (List ℤ)) → Held k m us rows → (r : ℤ) → Leads rows (2 ^ (shapeAt k s 0 - s)) r → r ≡ score (kernelCode k) m us
+  pub held-score : (rows : List (List ℤ)) → Held k m us rows → (r : ℤ) → IsDifference rows (2 ^ (shapeAt k s 0 - s)) r → r ≡ score (kernelCode k) m us
   unfolding score
   held-score rows h r l = l .less ∙ ap₂ _-ℤ_ (best-row rows h false (l .zero) (l .zero-greatest)) (best-row rows h true (l .one) (l .one-greatest))
 

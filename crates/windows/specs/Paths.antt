@@ -5,13 +5,13 @@ use mathlib.Core.List.{List, [], _∷_, _++_}
 use Prim.Native.Nat.{ℕ, _+_, _-_, _*_, _/_, _%_, _^_, _<_}
 use lib.ListN.{length, take, getD, replicate}
 use lib.IntN.{ℤ, pos, _-ℤ_}
-use Rattle.base.specs.Bit.{_⊕_, bit, digit}
+use Rattle.base.specs.Bit.{_⊕_, bit}
 use Rattle.bits.specs.Packed.{bits, number}
 use Rattle.polar.specs.Code.{Costs, bestScore}
 use Rattle.polar.specs.Kernel.{arikan, matrix}
 use Rattle.polar.specs.Window.{pathOf}
 use Rattle.polar.specs.Fold.{level, folded}
-use Rattle.folds.specs.Rows.{costsOf, IsGreatest}
+use Rattle.folds.specs.Rows.{rowOf, costsOf, IsGreatest}
 use Rattle.kernel.specs.Rows.{rowSum}
 use Rattle.windows.specs.Windows.{window, solution}
 
@@ -29,7 +29,7 @@ Kept k m us row = (w : ℕ) → w < 2 ^ width k us → getD row w (pos 0) ≡ pa
 
 -- Entry w of row b is the best score of path w with symbol b next.
 abbrev pub Held : ℕ → Costs → List Bool → List (List ℤ) → Type 0
-Held k m us rows = (b : Bool) → Kept k m (us ++ (b ∷ [])) (getD rows (digit b) [])
+Held k m us rows = (b : Bool) → Kept k m (us ++ (b ∷ [])) (rowOf rows b)
 
 -- Sixteen bits: the symbols us, one more, the window's bits, and 0 after them.
 abbrev pub Choice : List Bool → Bool → List Bool → ℕ → Type 0
@@ -57,7 +57,7 @@ abbrev pub pathLeast : List (List ℕ) → ℕ → ℕ → Bool → ℕ
 pathLeast costs high word b = folded 4 high (bit (bits 16 word)) (costsOf costs) 0 (bit (bits 16 word) high ⊕ b)
 
 -- r is the greatest of the first n entries of row 0, less that of row 1.
-pub record Leads (rows : List (List ℤ)) (n : ℕ) (r : ℤ) : Type 0 where
+pub record IsDifference (rows : List (List ℤ)) (n : ℕ) (r : ℤ) : Type 0 where
   pub zero : ℤ
   pub one : ℤ
   pub zero-greatest : IsGreatest (getD rows 0 []) n zero

@@ -6,7 +6,7 @@ use lib.ListN.{length}
 use borrow.Author.Tests.{not-true, not-false}
 use Rattle.answer.specs.Verdict.{done, isAccepted, settle}
 use Rattle.mask.proofs.Mask.{bytes-marked}
-use Rattle.decode.specs.Jobs.{decodeChecks}
+use Rattle.decode.specs.Jobs.{frameDecodeChecks}
 use Rattle.decode.proofs.Accepted.{DecodeAccepted, decode-refused, decode-accepted, decode-done}
 use borrow.Author.Needs.{needs}
 use Rattle.decode.proofs.frame_decode.Statement.{statement}
@@ -28,7 +28,7 @@ returns c =
 
 -- The checks accepted,
 accepts : (c : tie.Else1) → (let a = c .before .before .before .before .before .before .before .args in
-    isAccepted (settle (decodeChecks (a .inner) (a .outer) (a .values .now) (a .mask .now) (length (a .scores .now)) (length (a .penalties .now)) (length (a .payload .now))) done) ≡ true)
+    isAccepted (settle (frameDecodeChecks (a .inner) (a .outer) (a .values .now) (a .mask .now) (length (a .scores .now)) (length (a .penalties .now)) (length (a .payload .now))) done) ≡ true)
 accepts c = ap isAccepted (sym (c .before .before .decode-check .ensures)) ∙ sym (c .before .accepted .ensures) ∙ not-false _ (c .if1 .left)
 
 -- so the inputs pass them.
@@ -38,10 +38,8 @@ passed c = let a = c .before .before .before .before .before .before .before .ar
 rows-of-requires : tie.Need-rows-of-requires
 rows-of-requires c κs = passed c .mask-count
 
-run-requires : tie.Need-run-requires
-run-requires c κs =
-    let p = passed (c .before .before .before) in
-    ((p .inner, p .outer), ((p .count, p .inside), (p .score-room, p .sum-room)))
+frame-run-requires : tie.Need-frame-run-requires
+frame-run-requires c κs = passed (c .before .before .before) .ready
 
 slice-aggregate-store-rows : tie.Need-slice-aggregate-store-rows
 slice-aggregate-store-rows c = search needs
@@ -70,7 +68,7 @@ same-length-3 c = search needs
 returns-2 : tie.Need-returns-2
 returns-2 c =
     let a = c .before .before .before .before .before .before .before .before .before .before .before .before .before .before .before .before .before .before .before .before .before .before .before .args in
-    decode-done (a .inner) (a .outer) (a .values .now) (a .mask .now) (a .scores .now) (a .penalties .now) (a .payload .now) (accepts (c .before .before .before .before .before .before .before .before .before .before .before .before .before .before .before .before)) (c .before .before .before .before .before .before .before .before .before .before .before .before .before .before .before .rows-of .result) _ _ _ _ _ (c .before .before .before .before .before .before .before .before .before .before .before .before .before .before .before .rows-of .ensures) (c .before .before .before .before .before .before .before .before .before .before .before .before .run .ensures) (c .before .before .before .before .before .before .store-rows .ensures) (c .before .before .gather .ensures)
+    decode-done (a .inner) (a .outer) (a .values .now) (a .mask .now) (a .scores .now) (a .penalties .now) (a .payload .now) (accepts (c .before .before .before .before .before .before .before .before .before .before .before .before .before .before .before .before)) (c .before .before .before .before .before .before .before .before .before .before .before .before .before .before .before .rows-of .result) _ _ _ _ _ (c .before .before .before .before .before .before .before .before .before .before .before .before .before .before .before .rows-of .ensures) (c .before .before .before .before .before .before .before .before .before .before .before .before .frame-run .ensures) (c .before .before .before .before .before .before .store-rows .ensures) (c .before .before .gather .ensures)
 
 pub frame-decode-spec : {M : Type 1} → statement M
 frame-decode-spec =
@@ -81,7 +79,7 @@ frame-decode-spec =
     accepted-requires
     returns
     rows-of-requires
-    run-requires
+    frame-run-requires
     slice-aggregate-store-rows
     store-rows-requires
     slice-aggregate-gather

@@ -30,8 +30,8 @@ add-free-at c = search needs
 free-at-requires-2 : tie.Need-free-at-requires-2 Inv-loop μ-loop
 free-at-requires-2 c κs = search needs
 
-bit-of-requires : tie.Need-bit-of-requires Inv-loop μ-loop
-bit-of-requires c κs = search needs
+word-bit-requires : tie.Need-word-bit-requires Inv-loop μ-loop
+word-bit-requires c κs = search needs
 
 known-requires : tie.Need-known-requires Inv-loop μ-loop
 known-requires c κs =
@@ -73,7 +73,7 @@ loop-again c =
     let k = d .before .before .before .loop in
     let s = d .before .before .before .before in
     let m = (freeFold 8 (costsOf (s .args .rows .now))) in
-    let r = known-pays 4 (k .i) m _ _ _ _ _ _ (d .before .free-at .ensures) (d .free-at2 .ensures) (bit (bits 16 (s .args .word))) _ (c .before .bit-of .ensures) (c .known .ensures .0) (c .known .ensures .1) in
+    let r = known-pays 4 (k .i) m _ _ _ _ _ _ (d .before .free-at .ensures) (d .free-at2 .ensures) (bit (bits 16 (s .args .word))) _ (c .before .word-bit .ensures) (c .known .ensures .0) (c .known .ensures .1) in
     (search needs, fill-both 0 4 (k .i) _ (k .out) (k .inv .1) _ _ (search needs) (r .0) (r .1))
 
 returns : tie.Need-returns Inv-loop μ-loop
@@ -91,7 +91,7 @@ free-known-spec =
     free-at-requires
     add-free-at
     free-at-requires-2
-    bit-of-requires
+    word-bit-requires
     known-requires
     mul-out
     index-1-out

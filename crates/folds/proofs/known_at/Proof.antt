@@ -8,8 +8,8 @@ use borrow.Author.Needs.{needs}
 use Rattle.folds.proofs.known_at.Statement.{statement}
 use Rattle.folds.proofs.known_at.Tie as tie
 
-bit-of-requires : tie.Need-bit-of-requires
-bit-of-requires c κs = search needs
+word-bit-requires : tie.Need-word-bit-requires
+word-bit-requires c κs = search needs
 
 place-requires : tie.Need-place-requires
 place-requires c κs = search needs
@@ -33,7 +33,7 @@ returns c =
     let d = c .before .before in
     let s = d .before .before in
     known-pays 8 (s .args .i) (costsOf (s .args .rows .now)) _ _ _ _ _ _ (d .place .ensures) (c .before .place2 .ensures)
-    (bit (bits 16 (s .args .word))) _ (d .before .bit-of .ensures) (c .known .ensures .0) (c .known .ensures .1)
+    (bit (bits 16 (s .args .word))) _ (d .before .word-bit .ensures) (c .known .ensures .0) (c .known .ensures .1)
 
 pub known-at-spec : {M : Type 1} → statement M
-known-at-spec = tie.close (tie.spec bit-of-requires place-requires add-place place-requires-2 known-requires returns)
+known-at-spec = tie.close (tie.spec word-bit-requires place-requires add-place place-requires-2 known-requires returns)

@@ -30,11 +30,11 @@ add-known-at c = search needs
 known-at-requires-2 : tie.Need-known-at-requires-2 Inv-loop μ-loop
 known-at-requires-2 c κs = search needs
 
-add-bit-of : tie.Need-add-bit-of Inv-loop μ-loop
-add-bit-of c = search needs
+add-word-bit : tie.Need-add-word-bit Inv-loop μ-loop
+add-word-bit c = search needs
 
-bit-of-requires : tie.Need-bit-of-requires Inv-loop μ-loop
-bit-of-requires c κs = search needs
+word-bit-requires : tie.Need-word-bit-requires Inv-loop μ-loop
+word-bit-requires c κs = search needs
 
 known-requires : tie.Need-known-requires Inv-loop μ-loop
 known-requires c κs =
@@ -76,7 +76,7 @@ loop-again c =
     let k = d .before .before .before .loop in
     let s = d .before .before .before .before in
     let m = (knownFold 8 (bit (bits 16 (s .args .word))) (costsOf (s .args .rows .now))) in
-    let r = known-pays 4 (k .i) m _ _ _ _ _ _ (d .before .known-at .ensures) (d .known-at2 .ensures) (λ k. bit (bits 16 (s .args .word)) (8 + k)) _ (c .before .bit-of .ensures) (c .known .ensures .0) (c .known .ensures .1) in
+    let r = known-pays 4 (k .i) m _ _ _ _ _ _ (d .before .known-at .ensures) (d .known-at2 .ensures) (λ k. bit (bits 16 (s .args .word)) (8 + k)) _ (c .before .word-bit .ensures) (c .known .ensures .0) (c .known .ensures .1) in
     (search needs, fill-both 0 4 (k .i) _ (k .out) (k .inv .1) _ _ (search needs) (r .0) (r .1))
 
 returns : tie.Need-returns Inv-loop μ-loop
@@ -94,8 +94,8 @@ known-known-spec =
     known-at-requires
     add-known-at
     known-at-requires-2
-    add-bit-of
-    bit-of-requires
+    add-word-bit
+    word-bit-requires
     known-requires
     mul-out
     index-1-out

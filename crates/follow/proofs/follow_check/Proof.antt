@@ -2,7 +2,7 @@
 use mathlib.Core.Path.{sym, _∙_}
 use borrow.Author.Needs.{needs}
 use borrow.Author.Tests.{not-true, not-false, lt-ltb, le-ltb, eq-eqb, ne-eqb}
-use Rattle.follow.specs.Jobs.{followChecks}
+use Rattle.follow.specs.Jobs.{kernelFollowChecks}
 use Rattle.follow.proofs.follow_check.Statement.{statement}
 use Rattle.follow.proofs.follow_check.Tie as tie
 
@@ -10,17 +10,17 @@ is-kernel-requires : tie.Need-is-kernel-requires
 is-kernel-requires c κs = search needs
 
 returns : tie.Need-returns
-unfolding followChecks
+unfolding kernelFollowChecks
 returns c = simp (sym (c .before .is-kernel .ensures) ∙ not-true _ (c .if1 .taken))
 
 returns-2 : tie.Need-returns-2
-unfolding followChecks
+unfolding kernelFollowChecks
 returns-2 c =
     let k = c .before in
     simp (sym (k .before .is-kernel .ensures) ∙ not-false _ (k .if1 .left), ne-eqb _ _ (c .if2 .taken))
 
 returns-3 : tie.Need-returns-3
-unfolding followChecks
+unfolding kernelFollowChecks
 returns-3 c =
     let n = c .before in
     let k = n .before in
@@ -30,7 +30,7 @@ first-outside-requires : tie.Need-first-outside-requires
 first-outside-requires c κs = search needs
 
 returns-4 : tie.Need-returns-4
-unfolding followChecks
+unfolding kernelFollowChecks
 returns-4 c =
     let r = c .before .before in
     let n = r .before in
@@ -44,7 +44,7 @@ returns-4 c =
     )
 
 returns-5 : tie.Need-returns-5
-unfolding followChecks
+unfolding kernelFollowChecks
 returns-5 c =
     let r = c .before .before in
     let n = r .before in

@@ -3,6 +3,7 @@ use mathlib.Core.Path.{_≡_, sym, _∙_}
 use mathlib.Core.Logic.{⊎-elim}
 use mathlib.Core.Bool.{Bool}
 use Prim.Native.Nat.{ℕ, _-_, _≤_, _<_, _^_}
+use native.Mathlib.Omega.{arith}
 use lib.Bits.{xor-lt}
 use lib.ListN.{getD}
 use mir.Val.{Fits}
@@ -27,6 +28,11 @@ mul-word-bit c = search needs
 
 array-read-word-bit : tie.Need-array-read-word-bit Inv-loop μ-loop
 array-read-word-bit c = search needs
+
+cast-word-bit : tie.Need-cast-word-bit Inv-loop μ-loop
+cast-word-bit c =
+    let f : Fits w16 (getD (c .before .before .args .t2) (c .before .loop .r) 0) = search needs in
+    omega (arith, f .fits)
 
 word-bit-requires : tie.Need-word-bit-requires Inv-loop μ-loop
 word-bit-requires c κs = search needs
@@ -77,6 +83,7 @@ column-sum-spec =
     loop-holds
     mul-word-bit
     array-read-word-bit
+    cast-word-bit
     word-bit-requires
     mul-c
     array-read-c

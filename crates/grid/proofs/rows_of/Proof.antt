@@ -5,14 +5,14 @@ use native.Mathlib.Omega.{arith}
 use lib.ListN.{length, getD, replicate, set}
 use Rattle.base.specs.Bit.{tabulate}
 use Rattle.base.proofs.List.{filled, fill-next, fill-all}
-use Rattle.grid.specs.Grid.{rowOf, rowsBits}
+use Rattle.grid.specs.Grid.{byteRow, rowsBits}
 use Rattle.grid.proofs.Bytes.{rows-made}
 use borrow.Author.Needs.{needs}
 use Rattle.grid.proofs.rows_of.Statement.{statement}
 use Rattle.grid.proofs.rows_of.Tie as tie
 
 abbrev Inv-loop : tie.InvT-loop
-Inv-loop bytes out₀ r₀ out r = (r ≤ 16) × (length out ≡ 16) × (out ≡ filled (rowOf bytes) r (replicate 16 0))
+Inv-loop bytes out₀ r₀ out r = (r ≤ 16) × (length out ≡ 16) × (out ≡ filled (byteRow bytes) r (replicate 16 0))
 
 abbrev μ-loop : tie.MeasureT-loop
 μ-loop bytes out₀ r₀ out r = 16 - r
@@ -58,7 +58,7 @@ loop-again c =
       search needs,
       search needs,
       ap (λ o. set o (l .r) (c .row-of .result)) (l .inv .2)
-          ∙ fill-next (rowOf (a .bytes .now)) (l .r) (replicate 16 0) _ (search needs) (c .row-of .ensures),
+          ∙ fill-next (byteRow (a .bytes .now)) (l .r) (replicate 16 0) _ (search needs) (c .row-of .ensures),
     )
 
 returns : tie.Need-returns Inv-loop μ-loop
@@ -66,7 +66,7 @@ returns c =
     let a = c .before .before .before .args in
     let l = c .before .loop in
     let e : l .r ≡ 16 = search needs in
-    ap rowsBits (l .inv .2 ∙ ap (λ n. filled (rowOf (a .bytes .now)) n (replicate 16 0)) e ∙ fill-all (rowOf (a .bytes .now)) 16 (replicate 16 0) refl)
+    ap rowsBits (l .inv .2 ∙ ap (λ n. filled (byteRow (a .bytes .now)) n (replicate 16 0)) e ∙ fill-all (byteRow (a .bytes .now)) 16 (replicate 16 0) refl)
     ∙ rows-made (a .bytes .now) (c .before .before .before .pre) (λ i _. c .before .before .shared-slice-known .given i .fits)
 
 pub rows-of-spec : {M : Type 1} → statement M

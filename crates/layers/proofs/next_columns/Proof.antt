@@ -1,14 +1,12 @@
 -- `layers::next_columns` meets its contract: the first j symbols are set. Assumes nothing.
-use mathlib.Core.Path.{_≡_, refl, sym, ap, _∙_}
-use mathlib.Core.Bool.{Bool}
-use mathlib.Core.List.{List, []}
+use mathlib.Core.Path.{_≡_, refl, ap, _∙_}
 use Prim.Native.Nat.{ℕ, _-_, _≤_, _<_}
 use native.Mathlib.Omega.{arith}
 use lib.ListN.{length, getD}
-use Rattle.base.specs.Bit.{bit, digit}
+use Rattle.base.specs.Bit.{bit}
 use Rattle.base.proofs.List.{each-next}
 use Rattle.bits.specs.Packed.{bits}
-use Rattle.layers.specs.Layers.{withBit}
+use Rattle.run.specs.Run.{withBit}
 use borrow.Author.Needs.{needs}
 use Rattle.layers.proofs.next_columns.Statement.{statement}
 use Rattle.layers.proofs.next_columns.Tie as tie

@@ -1,23 +1,20 @@
 -- `layers::outer_scores` meets its contract: the first j scores are taken. Assumes nothing.
 use mathlib.Core.Path.{_≡_, refl, subst⁻¹}
-use mathlib.Core.Bool.{Bool}
-use mathlib.Core.List.{List, []}
+use mathlib.Core.List.{[]}
 use Prim.Native.Nat.{ℕ, _-_, _≤_, _<_}
 use native.Mathlib.Omega.{arith}
 use lib.ListN.{length, getD}
-use Rattle.base.specs.Bit.{bit, digit}
 use Rattle.base.proofs.List.{each-next}
-use Rattle.bits.specs.Packed.{bits}
-use lib.IntN.{ℤ, pos}
+use lib.IntN.{pos}
 use mir.Facts.{toZ-ofZ}
-use Rattle.windows.specs.Paths.{Leads}
-use Rattle.layers.proofs.Narrow.{narrow}
+use Rattle.windows.specs.Paths.{IsDifference}
+use Rattle.run.proofs.Narrow.{narrow}
 use borrow.Author.Needs.{needs}
 use Rattle.layers.proofs.outer_scores.Statement.{statement}
 use Rattle.layers.proofs.outer_scores.Tie as tie
 
 abbrev Inv-loop : tie.InvT-loop
-Inv-loop rows n out₀ j₀ out j = (j ≤ 16) × (length out ≡ 16) × ((i : ℕ) → i < j → Leads (getD rows i []) n (getD out i (pos 0)))
+Inv-loop rows n out₀ j₀ out j = (j ≤ 16) × (length out ≡ 16) × ((i : ℕ) → i < j → IsDifference (getD rows i []) n (getD out i (pos 0)))
 
 abbrev μ-loop : tie.MeasureT-loop
 μ-loop rows n out₀ j₀ out j = 16 - j
@@ -64,8 +61,8 @@ loop-again c =
     let f = p .1 .1 _ lj _ (c .difference .ensures) in (
       search needs,
       search needs,
-      each-next (λ i. Leads (getD (a .rows .now) i []) (a .n)) (l .out) (l .j) (pos 0) _ (search needs) (l .inv .2)
-          (subst⁻¹ (Leads (getD (a .rows .now) (l .j) []) (a .n)) (narrow (c .difference .result) (record { sfits = c .difference .ok }) f) (c .difference .ensures)),
+      each-next (λ i. IsDifference (getD (a .rows .now) i []) (a .n)) (l .out) (l .j) (pos 0) _ (search needs) (l .inv .2)
+          (subst⁻¹ (IsDifference (getD (a .rows .now) (l .j) []) (a .n)) (narrow (c .difference .result) (record { sfits = c .difference .ok }) f) (c .difference .ensures)),
     )
 
 returns : tie.Need-returns Inv-loop μ-loop

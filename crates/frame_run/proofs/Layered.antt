@@ -1,0 +1,69 @@
+-- A frame's scores and penalties in a row, by the inner kernel over the outer scores. Assumes nothing.
+use mathlib.Core.Path.{_≡_, sym, ap, ap₂, _∙_}
+use mathlib.Core.Bool.{Bool, true, false}
+use mathlib.Core.List.{List, [], _∷_, _++_}
+use Prim.Native.Nat.{ℕ, _+_, _-_, _*_, _≤_, _<_}
+use native.Mathlib.Omega.{arith}
+use lib.IntN.{ℤ, pos, negℤ, _-ℤ_}
+use lib.ListN.{length, getD, length-append}
+use Rattle.polar.specs.Code.{Costs, pay, channel, total, least, score}
+use Rattle.polar.specs.Kernel.{code}
+use Rattle.polar.specs.Stages.{rows, column, block, soft}
+use Rattle.polar.proofs.Minima.{sum-cong, minimum-cong}
+use Rattle.polar.proofs.Least.{least-cong}
+use Rattle.polar.proofs.Matrix.{kernel-onto}
+use Rattle.polar.proofs.Values.{value-pairs, penalty-values}
+use Rattle.polar.proofs.Frame.{frame-staged, frame-scores}
+use Rattle.kernel.specs.Kernels.{kernel, kernelCode}
+use Rattle.kernel.proofs.Solved.{invertible}
+use Rattle.kernel.proofs.Undoing.{code-word}
+use Rattle.frame.specs.Frames.{frameCode}
+use Rattle.layers.specs.Layers.{costsAt}
+use Rattle.run.proofs.Phases.{score-cong}
+
+-- A kernel as a matrix and by its relations has the same leasts,
+pub code-least : (k : ℕ) (m : Costs) (p : List Bool) → length p ≤ 16 → least (code (kernel k)) m p ≡ least (kernelCode k) m p
+unfolding least total
+code-least k m p l = minimum-cong (16 - length p) (λ t e. sum-cong 16 (λ i _. ap (m i) (code-word k (p ++ t) (length-append p t ∙ omega arith) i)))
+
+-- and the same scores.
+pub code-score : (k : ℕ) (m : Costs) (p : List Bool) → length p < 16 → score (code (kernel k)) m p ≡ score (kernelCode k) m p
+unfolding score
+code-score k m p l =
+    ap₂ (λ x y. negℤ (pos x) -ℤ negℤ (pos y))
+    (code-least k m (p ++ (false ∷ [])) (omega (arith, length-append p (false ∷ []))))
+    (code-least k m (p ++ (true ∷ [])) (omega (arith, length-append p (true ∷ []))))
+
+module _ (a b : ℕ) (ys : List ℤ) (costs : List (List (List ℕ)))
+    (agree : (j t : ℕ) (c : Bool) → j < 16 → t < 16 → costsAt costs j t c ≡ channel ys (16 * j + t) c)
+    (r : ℕ) (lr : r < 16) (u : List Bool) (lu : length u ≡ r * 16) where
+  U : List (List Bool)
+  U = rows 16 r u
+
+  -- The score of outer kernel j after its column.
+  pub outer-is : (j : ℕ) → j < 16 → (col : List Bool) → length col < 16 → col ≡ column (code (kernel a)) (rows 16 r u) j
+      → score (kernelCode b) (costsAt costs j) col ≡ score (code (kernel b)) (block 16 (channel ys) j) (column (code (kernel a)) (rows 16 r u) j)
+  outer-is j lj col lc e =
+      score-cong (kernelCode b) (λ t lt c. agree j t c lj lt) col
+      ∙ sym (code-score b (block 16 (channel ys) j) col lc)
+      ∙ ap (score (code (kernel b)) (block 16 (channel ys) j)) e
+
+  module _ (found : List ℤ) (is : (j : ℕ) → j < 16 → getD found j (pos 0) ≡ score (code (kernel b)) (block 16 (channel ys) j) (column (code (kernel a)) (rows 16 r u) j)) where
+    -- The inner kernel's values are the soft values.
+    soft-is : (j : ℕ) → j < 16 → (c : Bool) → channel found j c ≡ soft (code (kernel a)) (code (kernel b)) (channel ys) (rows 16 r u) j c
+    soft-is j l c = ap (λ y. pay y c) (is j l)
+
+    -- Scores in the row,
+    pub row-score : (p : List Bool) → length p < 16 → score (frameCode a b) (channel ys) (u ++ p) ≡ score (kernelCode a) (channel found) p
+    row-score p lp =
+        frame-scores (kernel a) (kernel b) (invertible a) (channel ys) r u p lu lr lp
+        ∙ score-cong (code (kernel a)) (λ j l c. sym (soft-is j l c)) p
+        ∙ code-score a (channel found) p lp
+
+    -- and penalties.
+    pub row-penalty : (p : List Bool) → length p ≤ 16 → least (frameCode a b) (channel ys) (u ++ p) ≡ least (frameCode a b) (channel ys) u + least (kernelCode a) (channel found) p
+    row-penalty p lp =
+        rw (frame-staged (kernel a) (kernel b)) (penalty-values (code (kernel a)) (code (kernel b)) (kernel-onto (kernel a) (invertible a)) (channel ys) r u p lu lr lp)
+        ∙ ap (λ x. least (frameCode a b) (channel ys) u + x)
+        (least-cong (code (kernel a)) (λ j l c. ap (λ z. pay z c) (value-pairs (code (kernel a)) (code (kernel b)) (channel ys) (rows 16 r u) j) ∙ sym (soft-is j l c)) p
+        ∙ code-least a (channel found) p lp)

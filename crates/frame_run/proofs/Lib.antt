@@ -1,0 +1,4 @@
+pub mod Layered
+pub mod Prefixes
+pub mod Rows
+pub mod Premises

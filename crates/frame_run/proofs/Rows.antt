@@ -1,0 +1,226 @@
+-- The run of a frame, row after row: what holds after r of them. Assumes nothing.
+use mathlib.Core.Path.{_≡_, refl, sym, ap, ap₂, _∙_, subst, subst⁻¹}
+use mathlib.Core.Bool.{Bool, false}
+use mathlib.Core.List.{List, [], _∷_, _++_}
+use Prim.Native.Nat.{ℕ, zero, suc, _+_, _-_, _*_, _≤_, _<_}
+use native.Mathlib.Numerals.{add-one}
+use native.Mathlib.Decide.{decLt}
+use native.Mathlib.Omega.{arith}
+use lib.IntN.{ℤ, pos}
+use lib.ListN.{length, getD, take, drop, set, replicate, length-set, length-append, List·getD-append}
+use lib.Seq.{paste, take-suc, take-all, take-at, take-append-le, take-append-add, drop-drop, drop-append-add, getD-append-add, length-take-le, ext-getD}
+use Rattle.base.specs.Bit.{bit, tabulate}
+use Rattle.base.proofs.List.{length-tabulate, tabulate-at, tabulate-cong, tabulate-append}
+use Rattle.bits.specs.Packed.{bits}
+use Rattle.bits.proofs.Packed.{length-bits, zero-at}
+use Rattle.polar.specs.Code.{Code, Costs, channel, least, score}
+use Rattle.polar.specs.Follow.{scores, penalties}
+use Rattle.polar.specs.Kernel.{code}
+use Rattle.polar.specs.Stages.{rows, column, block}
+use Rattle.polar.proofs.Least.{channel-nil}
+use Rattle.polar.proofs.Frame.{frame-onto}
+use Rattle.polar.proofs.Follow.{length-scores, length-penalties}
+use Rattle.folds.specs.Rows.{rowOf}
+use Rattle.kernel.specs.Kernels.{kernel, kernelCode}
+use Rattle.kernel.proofs.Solved.{invertible}
+use Rattle.grid.specs.Grid.{rowsBits}
+use Rattle.windows.specs.Paths.{Kept, Held}
+use Rattle.frame.specs.Frames.{frameCode}
+use Rattle.run.specs.Run.{withBit, symbolBy, SymbolsBy, KernelRun}
+use Rattle.layers.specs.Layers.{costsAt, before}
+use Rattle.run.proofs.Phases.{with-length, with-same, take-with, with-other}
+use Rattle.frame_run.specs.Run.{front, FrameRun}
+use Rattle.frame_run.proofs.Prefixes.{length-front, front-next, front-all, column-next}
+use Rattle.frame_run.proofs.Layered.{outer-is, row-score, row-penalty}
+
+-- Scores of a list with a part more, and penalties.
+module _ (C : Code) (m : Costs) (u p : List Bool) where
+  pub scores-more : scores C m (u ++ p) ≡ scores C m u ++ tabulate (length p) (λ i. score C m (u ++ take i p))
+  unfolding scores
+  scores-more =
+      ap (λ n. tabulate n (λ i. score C m (take i (u ++ p)))) (length-append u p)
+      ∙ tabulate-append (length u) (length p) (λ i. score C m (take i (u ++ p)))
+      ∙ ap₂ (λ (x y : List ℤ). x ++ y)
+      (tabulate-cong (length u) (λ i l. ap (score C m) (take-append-le i u p (omega arith))))
+      (tabulate-cong (length p) (λ i l. ap (score C m) (take-append-add u p i)))
+
+  pub penalties-more : penalties C m (u ++ p) ≡ penalties C m u ++ tabulate (length p) (λ i. least C m (u ++ take (suc i) p))
+  unfolding penalties
+  penalties-more =
+      ap (λ n. tabulate n (λ i. least C m (take (suc i) (u ++ p)))) (length-append u p)
+      ∙ tabulate-append (length u) (length p) (λ i. least C m (take (suc i) (u ++ p)))
+      ∙ ap₂ (λ (x y : List ℕ). x ++ y)
+      (tabulate-cong (length u) (λ i l. ap (least C m) (take-append-le (suc i) u p (omega arith))))
+      (tabulate-cong (length p) (λ i l. let e : suc (length u + i) ≡ length u + suc i = omega arith in ap (λ n. least C m (take n (u ++ p))) e ∙ ap (least C m) (take-append-add u p (suc i))))
+
+-- A part pasted after the first ones.
+pub paste-next : {X : Type 0} (done new old : List X) (n : ℕ) → length done ≡ n → length new ≡ 16
+    → paste (done ++ drop n old) n new 16 ≡ done ++ new ++ drop (n + 16) old
+paste-next {X} done new old n e f =
+    ap₂ (λ (x y : List X). x ++ y)
+    (ap₂ (λ (x y : List X). x ++ y) (take-at done (drop n old) n e) (take-all 16 new (omega arith)))
+    (ap (λ k. drop (k + 16) (done ++ drop n old)) (sym e) ∙ drop-append-add done (drop n old) 16 ∙ drop-drop 16 n old)
+
+module _ (a b : ℕ) (ys : List ℤ) (costs : List (List (List ℕ))) (free given : ℕ → Bool) (oldScores : List ℤ) (oldPenalties : List ℕ) where
+  -- After r rows.
+  pub record AfterRows (r : ℕ) (symbols columns : List ℕ) (rows3 : List (List (List ℤ))) (w penalty : ℕ) (newScores : List ℤ) (newPenalties : List ℕ) : Type 0 where
+    pub within : r ≤ 16
+    pub room : length symbols ≡ 16
+    pub symbols-so : SymbolsBy (frameCode a b) (channel ys) free given (front r symbols)
+    pub scores-so : newScores ≡ scores (frameCode a b) (channel ys) (front r symbols) ++ drop (r * 16) oldScores
+    pub penalties-so : newPenalties ≡ penalties (frameCode a b) (channel ys) (front r symbols) ++ drop (r * 16) oldPenalties
+    pub penalty-so : penalty ≡ least (frameCode a b) (channel ys) (front r symbols)
+    pub columns-so : (j : ℕ) → j < 16 → before r columns j ≡ column (code (kernel a)) (rows 16 r (front r symbols)) j
+    pub later : (j : ℕ) → j < 16 → (i : ℕ) → r ≤ i → bit (bits 16 (getD columns j 0)) i ≡ false
+    pub kept-so : 0 < r → (j : ℕ) → j < 16 → Kept b (costsAt costs j) (before r columns j) (rowOf (getD rows3 j []) (bit (bits 16 w) j))
+
+  module _ (agree : (j t : ℕ) (c : Bool) → j < 16 → t < 16 → costsAt costs j t c ≡ channel ys (16 * j + t) c)
+      (r : ℕ) (symbols columns : List ℕ) (rows₀ : List (List (List ℤ))) (w₀ penalty : ℕ) (newScores : List ℤ) (newPenalties : List ℕ)
+      (g : AfterRows r symbols columns rows₀ w₀ penalty newScores newPenalties) (lr : r < 16)
+      (found : List ℤ) (is : (j : ℕ) → j < 16 → getD found j (pos 0) ≡ score (kernelCode b) (costsAt costs j) (before r columns j))
+      (fr gi x : ℕ) (sc : List ℤ) (pe : List ℕ)
+      (free-is : (s : ℕ) → s < 16 → bit (bits 16 fr) s ≡ free (r * 16 + s)) (given-is : (s : ℕ) → s < 16 → bit (bits 16 gi) s ≡ given (r * 16 + s))
+      (row : KernelRun a found fr gi penalty x sc pe) (long : length pe ≡ 16) where
+    abbrev pub u : List Bool
+    u = front r symbols
+
+    abbrev pub p : List Bool
+    p = bits 16 x
+
+    lu : length u ≡ r * 16
+    lu = length-front r symbols
+
+    lp : length p ≡ 16
+    lp = length-bits 16 x
+
+    col-long : (j : ℕ) → length (before r columns j) ≡ r
+    col-long j = length-take-le r (bits 16 (getD columns j 0)) (omega (arith, length-bits 16 (getD columns j 0)))
+
+    soft-is : (j : ℕ) → j < 16 → getD found j (pos 0) ≡ score (code (kernel b)) (block 16 (channel ys) j) (column (code (kernel a)) (rows 16 r u) j)
+    soft-is j l = is j l ∙ outer-is a b ys costs agree r lr (front r symbols) lu j l (before r columns j) (omega (arith, col-long j)) (g .columns-so j l)
+
+    in-row : (q : List Bool) → length q < 16 → score (frameCode a b) (channel ys) (u ++ q) ≡ score (kernelCode a) (channel found) q
+    in-row q lq = row-score a b ys costs agree r lr u lu found soft-is q lq
+
+    paid-row : (q : List Bool) → length q ≤ 16 → least (frameCode a b) (channel ys) (u ++ q) ≡ penalty + least (kernelCode a) (channel found) q
+    paid-row q lq = row-penalty a b ys costs agree r lr (front r symbols) lu found soft-is q lq ∙ ap (λ z. z + least (kernelCode a) (channel found) q) (sym (g .penalty-so))
+
+    -- The symbols with the row's are those by their sources.
+    symbols-next : SymbolsBy (frameCode a b) (channel ys) free given (u ++ p)
+    symbols-next i l = go (decLt i (length u)) (omega (arith, length-append u p, lp))
+      where
+        go : Dec (i < length u) → i < length u + 16 → bit (u ++ p) i ≡ symbolBy (free i) (given i) (score (frameCode a b) (channel ys) (take i (u ++ p)))
+        go (yes h) _ =
+            List·getD-append u p false i h ∙ g .symbols-so i h
+            ∙ ap (λ v. symbolBy (free i) (given i) (score (frameCode a b) (channel ys) v)) (sym (take-append-le i u p (omega arith)))
+        go (no h) t =
+            let s : ℕ = i - length u in
+            let ls : s < 16 = omega arith in
+            let e : i ≡ length u + s = omega arith in
+            let e′ : i ≡ r * 16 + s = omega (arith, lu) in
+            let lq : length (take s p) < 16 = omega (arith, length-take-le s p (omega (arith, lp))) in
+            ap (bit (u ++ p)) e ∙ getD-append-add u p s false ∙ row .symbols-by s (omega (arith, lp))
+            ∙ ap₂ (λ f g. symbolBy f g (score (kernelCode a) (channel found) (take s p))) (free-is s ls ∙ ap free (sym e′)) (given-is s ls ∙ ap given (sym e′))
+            ∙ ap (symbolBy (free i) (given i)) (sym (in-row (take s p) lq) ∙ ap (score (frameCode a b) (channel ys)) (sym (ap (λ n. take n (u ++ p)) e ∙ take-append-add u p s)))
+
+    scores-next : scores (frameCode a b) (channel ys) (u ++ p) ≡ scores (frameCode a b) (channel ys) u ++ sc
+    unfolding scores
+    scores-next =
+        scores-more (frameCode a b) (channel ys) u p
+        ∙ ap (λ (l : List ℤ). scores (frameCode a b) (channel ys) u ++ l)
+        (tabulate-cong (length p) (λ i l. in-row (take i p) (omega (arith, lp, length-take-le i p (omega arith)))) ∙ sym (row .scores-are))
+
+    penalties-next : penalties (frameCode a b) (channel ys) (u ++ p) ≡ penalties (frameCode a b) (channel ys) u ++ pe
+    penalties-next =
+        penalties-more (frameCode a b) (channel ys) u p
+        ∙ ap (λ (l : List ℕ). penalties (frameCode a b) (channel ys) u ++ l)
+        (sym (ext-getD 0 pe (tabulate (length p) (λ i. least (frameCode a b) (channel ys) (u ++ take (suc i) p))) (long ∙ sym (length-tabulate (length p) _ ∙ lp))
+        (λ i l. row .penalties-are i (omega (arith, long)) ∙ sym (paid-row (take (suc i) p) (omega (arith, lp, length-take-le (suc i) p (omega (arith, lp, long)))))
+        ∙ sym (tabulate-at (length p) _ i 0 (omega (arith, lp, long))))))
+
+    -- One row more.
+    module _ (w : ℕ) (word-is : (j : ℕ) → j < 16 → bit (bits 16 w) j ≡ (code (kernel a)) .word p j)
+        (columns′ : List ℕ) (cols : (j : ℕ) → j < 16 → bits 16 (getD columns′ j 0) ≡ withBit (bits 16 (getD columns j 0)) r (bit (bits 16 w) j))
+        (rows3 : List (List (List ℤ))) (held : (j : ℕ) → j < 16 → Held b (costsAt costs j) (before r columns j) (getD rows3 j [])) where
+      next : front (r + 1) (set symbols r x) ≡ u ++ p
+      next = ap (λ n. front n (set symbols r x)) (add-one r) ∙ front-next r symbols x (omega (arith, g .room))
+
+      more : (r + 1) * 16 ≡ r * 16 + 16
+      more = omega arith
+
+      col-next : (j : ℕ) → j < 16 → before (r + 1) columns′ j ≡ before r columns j ++ (bit (bits 16 w) j ∷ [])
+      col-next j l =
+          let q = bits 16 (getD columns j 0) in
+          let lq = length-bits 16 (getD columns j 0) in
+          let v = bit (bits 16 w) j in
+          ap₂ take (add-one r) (cols j l)
+          ∙ take-suc (withBit q r v) r false (omega (arith, with-length q r v, lq))
+          ∙ ap₂ (λ t c. t ++ (c ∷ [])) (take-with q r r v (omega arith)) (with-same q r v (omega (arith, lq)) (g .later j l r (omega arith)))
+
+      pub row-next : AfterRows (r + 1) (set symbols r x) columns′ rows3 w (getD pe 15 0) (paste newScores (r * 16) sc 16) (paste newPenalties (r * 16) pe 16)
+      row-next = record {
+        within = omega arith;
+        room = length-set symbols r x ∙ g .room;
+        symbols-so = subst⁻¹ (SymbolsBy (frameCode a b) (channel ys) free given) next symbols-next;
+        scores-so =
+            ap (λ (l : List ℤ). paste l (r * 16) sc 16) (g .scores-so)
+            ∙ paste-next (scores (frameCode a b) (channel ys) u) sc oldScores (r * 16) (length-scores (frameCode a b) (channel ys) u ∙ lu) (ap length (row .scores-are) ∙ length-scores (kernelCode a) (channel found) p ∙ lp)
+            ∙ ap₂ (λ (l : List ℤ) n. l ++ drop n oldScores) (sym scores-next ∙ ap (scores (frameCode a b) (channel ys)) (sym next)) (sym more);
+        penalties-so =
+            ap (λ (l : List ℕ). paste l (r * 16) pe 16) (g .penalties-so)
+            ∙ paste-next (penalties (frameCode a b) (channel ys) u) pe oldPenalties (r * 16) (length-penalties (frameCode a b) (channel ys) u ∙ lu) long
+            ∙ ap₂ (λ (l : List ℕ) n. l ++ drop n oldPenalties) (sym penalties-next ∙ ap (penalties (frameCode a b) (channel ys)) (sym next)) (sym more);
+        penalty-so =
+            row .penalties-are 15 (omega arith) ∙ sym (paid-row (take 16 p) (omega (arith, lp, length-take-le 16 p (omega (arith, lp)))))
+            ∙ ap (λ v. least (frameCode a b) (channel ys) (u ++ v)) (take-all 16 p (omega (arith, lp))) ∙ ap (least (frameCode a b) (channel ys)) (sym next);
+        columns-so = λ j l.
+            col-next j l ∙ ap₂ (λ t c. t ++ (c ∷ [])) (g .columns-so j l) (word-is j l)
+            ∙ sym (column-next (code (kernel a)) r u p j lu lp)
+            ∙ ap₂ (λ n v. column (code (kernel a)) (rows 16 n v) j) (sym (add-one r)) (sym next);
+        later = λ j l i li.
+            ap (λ v. bit v i) (cols j l) ∙ with-other (bits 16 (getD columns j 0)) r i (bit (bits 16 w) j) (λ e. omega arith) ∙ g .later j l i (omega arith);
+        kept-so = λ _ j l. subst⁻¹ (λ v. Kept b (costsAt costs j) v (rowOf (getD rows3 j []) (bit (bits 16 w) j))) (col-next j l) (held j l (bit (bits 16 w) j));
+      }
+
+      -- The same as the code has it.
+      pub row-turn : (newScores′ : List ℤ) → newScores′ ≡ paste newScores (r * 16) sc 16 → (newPenalties′ : List ℕ) → newPenalties′ ≡ paste newPenalties (r * 16) pe 16
+          → AfterRows (r + 1) (set symbols r x) columns′ rows3 w (getD pe 15 0) newScores′ newPenalties′
+      row-turn newScores′ e newPenalties′ f = rw (e, f) row-next
+
+-- Before the first row.
+pub no-row : (a b : ℕ) (ys : List ℤ) (costs : List (List (List ℕ))) (free given : ℕ → Bool) (oldScores : List ℤ) (oldPenalties : List ℕ)
+    (symbols columns : List ℕ) (rows3 : List (List (List ℤ))) (w : ℕ) → length symbols ≡ 16 → ((j : ℕ) → getD columns j 0 ≡ 0)
+    → AfterRows a b ys costs free given oldScores oldPenalties 0 symbols columns rows3 w 0 oldScores oldPenalties
+unfolding front scores penalties rows tabulate
+no-row a b ys costs free given oldScores oldPenalties symbols columns rows3 w ls z = record {
+  within = omega arith;
+  room = ls;
+  symbols-so = λ i l. absurd (omega arith);
+  scores-so = refl;
+  penalties-so = refl;
+  penalty-so = sym (channel-nil (frameCode a b) (frame-onto (kernel a) (kernel b) (invertible a) (invertible b)) ys);
+  columns-so = λ j l. refl;
+  later = λ j l i li. ap (λ x. bit (bits 16 x) i) (z j) ∙ zero-at 16 i;
+  kept-so = λ l. absurd (omega arith);
+}
+
+-- After the last row.
+pub all-rows : (a b : ℕ) (ys : List ℤ) (costs : List (List (List ℕ))) (free given : List ℕ) (oldScores : List ℤ) (oldPenalties : List ℕ)
+    (r : ℕ) (symbols columns : List ℕ) (rows3 : List (List (List ℤ))) (w penalty : ℕ) (newScores : List ℤ) (newPenalties : List ℕ) → r ≡ 16
+    → AfterRows a b ys costs (bit (rowsBits free)) (bit (rowsBits given)) oldScores oldPenalties r symbols columns rows3 w penalty newScores newPenalties
+    → FrameRun a b ys free given symbols newScores oldScores newPenalties oldPenalties
+all-rows a b ys costs free given oldScores oldPenalties r symbols columns rows3 w penalty newScores newPenalties e g =
+    let C = frameCode a b in
+    let m = channel ys in
+    let all : front r symbols ≡ rowsBits symbols = ap (λ n. front n symbols) e ∙ front-all symbols in
+    record {
+      symbols-by = subst (SymbolsBy C m (bit (rowsBits free)) (bit (rowsBits given))) all (g .symbols-so);
+      scores-are = g .scores-so ∙ ap₂ (λ u n. scores C m u ++ drop (n * 16) oldScores) all e;
+      penalties-are = g .penalties-so ∙ ap₂ (λ u n. penalties C m u ++ drop (n * 16) oldPenalties) all e;
+    }
+
+-- A table of zeros.
+pub zeros-at : (n j : ℕ) → _≡_ {A = ℕ} (getD (replicate n 0) j 0) 0
+zeros-at zero j = refl
+zeros-at (suc n) zero = refl
+zeros-at (suc n) (suc j) = zeros-at n j

@@ -1,0 +1,85 @@
+-- `frame_run::block_values` meets its contract: the first t values are taken. Assumes nothing.
+use mathlib.Core.Path.{_≡_, refl, _∙_}
+use Prim.Native.Nat.{ℕ, _+_, _-_, _*_, _≤_, _<_}
+use native.Mathlib.Omega.{arith}
+use lib.IntN.{ℤ, pos}
+use lib.ListN.{length, getD}
+use mir.Facts.{toZ-ofZ, sfits-widen}
+use mir.Syntax.{w8, w16}
+use mir.Val.{SFits, toZ, ofZ}
+use Rattle.base.proofs.List.{each-next}
+use borrow.Author.Needs.{needs, sfits-of}
+use Rattle.frame_run.proofs.block_values.Statement.{statement}
+use Rattle.frame_run.proofs.block_values.Tie as tie
+
+-- A value of eight bits, widened, is the value.
+wide-fits : (y : ℤ) → SFits w8 y → SFits w16 (toZ w8 (ofZ w8 y))
+wide-fits y f = rw (toZ-ofZ f) (sfits-widen tt f)
+
+wide-is : (y : ℤ) → SFits w8 y → toZ w16 (ofZ w16 (toZ w8 (ofZ w8 y))) ≡ y
+wide-is y f = toZ-ofZ (wide-fits y f) ∙ toZ-ofZ f
+
+abbrev Inv-loop : tie.InvT-loop
+Inv-loop values j out₀ t₀ out t = (t ≤ 16) × (length out ≡ 16) × ((i : ℕ) → i < t → getD out i (pos 0) ≡ getD values (16 * j + i) (pos 0))
+
+abbrev μ-loop : tie.MeasureT-loop
+μ-loop values j out₀ t₀ out t = 16 - t
+
+loop-holds : tie.Need-loop-holds Inv-loop μ-loop
+loop-holds c = (search needs, refl, λ i l. absurd (omega arith))
+
+mul-out : tie.Need-mul-out Inv-loop μ-loop
+mul-out c = search needs
+
+add-out : tie.Need-add-out Inv-loop μ-loop
+add-out c = search needs
+
+shared-slice-copy-out-out : tie.Need-shared-slice-copy-out-out Inv-loop μ-loop
+shared-slice-copy-out-out c = search needs
+
+cast-out : tie.Need-cast-out Inv-loop μ-loop
+cast-out c =
+    let a = c .before .before .before .args in
+    wide-fits (getD (a .values .now) (16 * a .j + c .before .before .loop .t) (pos 0)) (sfits-of (c .out .given))
+
+mul-out-2 : tie.Need-mul-out-2 Inv-loop μ-loop
+mul-out-2 c = search needs
+
+array-set-from-out : tie.Need-array-set-from-out Inv-loop μ-loop
+array-set-from-out c = search needs
+
+add-t : tie.Need-add-t Inv-loop μ-loop
+add-t c = search needs
+
+loop-less : tie.Need-loop-less Inv-loop μ-loop
+loop-less c = search needs
+
+loop-again : tie.Need-loop-again Inv-loop μ-loop
+loop-again c =
+    let a = c .before .before .before .args in
+    let l = c .before .before .loop in (
+      search needs,
+      search needs,
+      each-next (λ i x. x ≡ getD (a .values .now) (16 * a .j + i) (pos 0)) (l .out) (l .t) (pos 0) _ (search needs) (l .inv .2) (wide-is (getD (a .values .now) (16 * a .j + l .t) (pos 0)) (sfits-of (c .out .given))),
+    )
+
+returns : tie.Need-returns Inv-loop μ-loop
+returns c = λ t l. c .before .loop .inv .2 t (omega arith)
+
+pub block-values-spec : {M : Type 1} → statement M
+block-values-spec =
+    tie.close
+    (tie.spec
+    Inv-loop
+    μ-loop
+    loop-holds
+    mul-out
+    add-out
+    shared-slice-copy-out-out
+    cast-out
+    mul-out-2
+    array-set-from-out
+    add-t
+    loop-less
+    loop-again
+    returns)

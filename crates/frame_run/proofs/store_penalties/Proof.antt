@@ -1,0 +1,80 @@
+-- `frame_run::store_penalties` meets its contract: the first i are stored, and the rest of the buffer is as it was. Assumes nothing.
+use mathlib.Core.Path.{_≡_, refl, sym, ap, _∙_}
+use Prim.Native.Nat.{_+_, _-_, _≤_}
+use native.Mathlib.Numerals.{add-one}
+use lib.ListN.{length, getD, set}
+use lib.Seq.{paste, paste-zero, paste-suc}
+use borrow.Author.Needs.{needs}
+use Rattle.frame_run.proofs.store_penalties.Statement.{statement}
+use Rattle.frame_run.proofs.store_penalties.Tie as tie
+
+abbrev Inv-loop : tie.InvT-loop
+Inv-loop at out₀ found i₀ out i = (i ≤ 16) × (length out ≡ length out₀) × (out ≡ paste out₀ at found i)
+
+abbrev μ-loop : tie.MeasureT-loop
+μ-loop at out₀ found i₀ out i = 16 - i
+
+loop-holds : tie.Need-loop-holds Inv-loop μ-loop
+loop-holds c = (search needs, refl, paste-zero (c .args .out .now) (c .args .at) (c .args .t1))
+
+mul-out : tie.Need-mul-out Inv-loop μ-loop
+mul-out c = search needs
+
+array-read-out : tie.Need-array-read-out Inv-loop μ-loop
+array-read-out c = search needs
+
+add-out : tie.Need-add-out Inv-loop μ-loop
+add-out c = search needs
+
+mul-out-2 : tie.Need-mul-out-2 Inv-loop μ-loop
+mul-out-2 c = search needs
+
+slice-write-out : tie.Need-slice-write-out Inv-loop μ-loop
+slice-write-out c = search needs
+
+add-i : tie.Need-add-i Inv-loop μ-loop
+add-i c = search needs
+
+loop-less : tie.Need-loop-less Inv-loop μ-loop
+loop-less c = search needs
+
+loop-again : tie.Need-loop-again Inv-loop μ-loop
+loop-again c =
+    let a = c .before .before .args in
+    let k = c .before .loop in
+    let n : length (a .t1) ≡ 16 = search needs in (
+      search needs,
+      search needs,
+      ap (λ x. set (k .out) (a .at + k .i) x) refl
+          ∙ ap (λ o. set o (a .at + k .i) (getD (a .t1) (k .i) 0)) (k .inv .2)
+          ∙ paste-suc (a .out .now) (a .at) (a .t1) (k .i) 0 (search needs) (search needs)
+          ∙ ap (paste (a .out .now) (a .at) (a .t1)) (sym (add-one (k .i))),
+    )
+
+same-length : tie.Need-same-length Inv-loop μ-loop
+same-length c = search needs
+
+returns : tie.Need-returns Inv-loop μ-loop
+returns c =
+    let k = c .before .loop in
+    let i : k .i ≡ 16 = search needs in
+    let a = c .before .before .args in
+    k .inv .2 ∙ ap (paste (a .out .now) (a .at) (a .t1)) i
+
+pub store-penalties-spec : {M : Type 1} → statement M
+store-penalties-spec =
+    tie.close
+    (tie.spec
+    Inv-loop
+    μ-loop
+    loop-holds
+    mul-out
+    array-read-out
+    add-out
+    mul-out-2
+    slice-write-out
+    add-i
+    loop-less
+    loop-again
+    same-length
+    returns)

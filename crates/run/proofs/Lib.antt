@@ -1,0 +1,3 @@
+pub mod Narrow
+pub mod Phases
+pub mod Symbols

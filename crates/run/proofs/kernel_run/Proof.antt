@@ -1,0 +1,225 @@
+-- `run::kernel_run` meets its contract: after s phases the first s symbols are those by their sources, and their scores and penalties are
+-- written. Assumes nothing.
+use mathlib.Core.Path.{_≡_, refl, ap, _∙_}
+use mathlib.Core.List.{[]}
+use Prim.Native.Nat.{_+_, _-_, _≤_, _<_}
+use native.Mathlib.Omega.{arith}
+use lib.ListN.{take, getD}
+use mir.Facts.{toZ-ofZ}
+use Rattle.base.specs.Bit.{bit}
+use Rattle.bits.specs.Packed.{bits}
+use Rattle.bits.proofs.Packed.{length-bits, zero-at}
+use Rattle.polar.specs.Code.{pay, score}
+use Rattle.polar.proofs.Least.{least-cong, channel-nil}
+use Rattle.polar.proofs.Values.{score-bound}
+use Rattle.folds.specs.Rows.{costsOf, Within}
+use Rattle.kernel.specs.Kernels.{kernelCode}
+use Rattle.kernel.proofs.Undoing.{kernel-code-onto}
+use Rattle.windows.proofs.Following.{range, difference-asks, difference-is, score-fits}
+use Rattle.run.specs.Run.{symbolBy}
+use Rattle.run.proofs.Narrow.{whole, narrow}
+use Rattle.run.proofs.Phases.{AfterPhases, no-phase, phase-turn, next-bound, own-is, size-le, run-of}
+use borrow.Author.Needs.{needs}
+use Rattle.run.proofs.kernel_run.Statement.{statement}
+use Rattle.run.proofs.kernel_run.Tie as tie
+
+abbrev Inv-loop : tie.InvT-loop
+Inv-loop kernel shapes tables values free given start costs symbols₀ scores₀ penalties₀ rows₀ own₀ penalty₀ s₀ symbols scores penalties rows own penalty s =
+    AfterPhases kernel (costsOf costs) (bit (bits 16 free)) (bit (bits 16 given)) start s (bits 16 symbols) scores penalties rows own penalty
+
+abbrev μ-loop : tie.MeasureT-loop
+μ-loop kernel shapes tables values free given start costs symbols₀ scores₀ penalties₀ rows₀ own₀ penalty₀ s₀ symbols scores penalties rows own penalty s = 16 - s
+
+cost-rows-requires : tie.Need-cost-rows-requires Inv-loop μ-loop
+cost-rows-requires c κs = search needs
+
+-- No cost exceeds 2047.
+most : (c : tie.After-cost-rows Inv-loop μ-loop) → Within 2047 (c .cost-rows .result)
+most c = c .cost-rows .ensures .1 2047 (c .before .pre .1 .1 .1)
+
+loop-holds : tie.Need-loop-holds Inv-loop μ-loop
+loop-holds c =
+    let r = c .before in
+    let C = kernelCode (r .args .kernel) in
+    no-phase (r .args .kernel) (costsOf (c .cost-rows .result)) _ _ (r .args .start)
+    (least-cong C (λ i l b. c .cost-rows .ensures .0 i b l) [] ∙ channel-nil C (kernel-code-onto (r .args .kernel)) (r .args .values .now))
+    (bits 16 0) (length-bits 16 0) (zero-at 16) _ _ _ _ refl refl
+
+mul-shape : tie.Need-mul-shape Inv-loop μ-loop
+mul-shape c = search needs
+
+element-copy-out-shape : tie.Need-element-copy-out-shape Inv-loop μ-loop
+element-copy-out-shape c = search needs
+
+mul-step : tie.Need-mul-step Inv-loop μ-loop
+mul-step c = search needs
+
+index-1-step : tie.Need-index-1-step Inv-loop μ-loop
+index-1-step c = search needs
+
+step-requires : tie.Need-step-requires Inv-loop μ-loop
+step-requires c κs =
+    let l = c .before .before .before .before .loop in
+    let r = c .before .before .before .before .before .before in (
+      (r .pre .0 .0, search needs),
+      (
+        (
+          ap (λ t. getD t (l .s) []) (c .before .before .before .before .before .before .pre .1 .0 .0),
+          ap (λ t. getD t (l .s) []) (c .before .before .before .before .before .before .pre .1 .0 .1),
+        ),
+        ((λ j d. omega (arith, most (c .before .before .before .before .before) j d)), l .inv .kept-so),
+      ),
+    )
+
+-- What each phase finds: the numbers of the phase are in range,
+in-phase : (c : tie.After-step Inv-loop μ-loop) → (let s = c .before .before .before .before .before .loop .s in
+    let shape = getD (c .before .before .before .before .before .before .before .args .shapes .now) s [] in
+    (s ≤ getD shape 0 0) × (getD shape 0 0 < 16) × (getD shape 0 0 - s ≤ 4))
+in-phase c =
+    let l = c .before .before .before .before .before .loop in
+    let r = c .before .before .before .before .before .before .before in
+    range (r .args .kernel) (r .pre .0 .0) (c .before .before .before .before .before .before .cost-rows .result) (most (c .before .before .before .before .before .before)) (l .symbols) _ (c .before .before .before .before .before .before .before .pre .1 .0 .0) (l .s) (search needs)
+
+-- and the difference is the score.
+found : (c : tie.After-difference Inv-loop μ-loop) → (let l = c .before .before .before .before .before .before .before .before .loop in
+    c .difference .result ≡ score (kernelCode (c .before .before .before .before .before .before .before .before .before .before .args .kernel))
+    (costsOf (c .before .before .before .before .before .before .before .before .before .cost-rows .result)) (take (l .s) (bits 16 (l .symbols))))
+found c =
+    let l = c .before .before .before .before .before .before .before .before .loop in
+    let r = c .before .before .before .before .before .before .before .before .before .before in
+    difference-is (r .args .kernel) (r .pre .0 .0) (c .before .before .before .before .before .before .before .before .before .cost-rows .result) (most (c .before .before .before .before .before .before .before .before .before)) (l .symbols) _ (c .before .before .before .before .before .before .before .before .before .before .pre .1 .0 .0) (l .s) (search needs)
+    (c .before .before .before .step .result) (c .before .before .before .step .ensures) (c .before .path-count .result) (c .before .path-count .ensures) (c .difference .result) (c .difference .ensures)
+
+path-count-requires : tie.Need-path-count-requires Inv-loop μ-loop
+path-count-requires c κs = in-phase (c .before)
+
+difference-requires : tie.Need-difference-requires Inv-loop μ-loop
+difference-requires c κs =
+    let l = c .before .before .before .before .before .before .before .loop in
+    let r = c .before .before .before .before .before .before .before .before .before in
+    difference-asks (r .args .kernel) (r .pre .0 .0) (c .before .before .before .before .before .before .before .before .cost-rows .result) (most (c .before .before .before .before .before .before .before .before)) (l .symbols) _ (c .before .before .before .before .before .before .before .before .before .pre .1 .0 .0) (l .s) (search needs)
+    (c .before .before .step .result) (c .before .before .step .ensures) (c .path-count .result) (c .path-count .ensures)
+
+word-bit-requires : tie.Need-word-bit-requires Inv-loop μ-loop
+word-bit-requires c κs = search needs
+
+word-bit-requires-2 : tie.Need-word-bit-requires-2 Inv-loop μ-loop
+word-bit-requires-2 c κs = search needs
+
+symbol-of-requires : tie.Need-symbol-of-requires Inv-loop μ-loop
+symbol-of-requires c κs = search needs
+
+paid-requires : tie.Need-paid-requires Inv-loop μ-loop
+paid-requires c κs =
+    let e = c .before .before .before in
+    rw (toZ-ofZ (record { sfits = e .difference .ok }))
+    (size-le (e .difference .result) 32752 (λ d. rw (found e) (score-bound (kernelCode _) _ 2047 (most (c .before .before .before .before .before .before .before .before .before .before .before .before)) _ d)))
+
+-- The symbol of the phase, by its source.
+owned : (c : tie.After-symbol-of Inv-loop μ-loop) → (let l = c .before .before .before .before .before .before .before .before .before .before .before .loop in
+    let a = c .before .before .before .before .before .before .before .before .before .before .before .before .before .args in
+    c .symbol-of .result ≡ symbolBy (bit (bits 16 (a .free)) (l .s)) (bit (bits 16 (a .given)) (l .s)) (c .before .before .before .difference .result))
+owned c =
+    own-is (c .symbol-of .result) _ _ _ _ _ (c .before .before .before .difference .result) (c .before .before .word-bit .ensures) (c .before .word-bit2 .ensures) (whole (c .before .before .before .difference .result) (record { sfits = c .before .before .before .difference .ok })) (c .symbol-of .ensures)
+
+-- What it pays.
+pays : (c : tie.After-paid Inv-loop μ-loop) → c .paid .result ≡ pay (c .before .before .before .before .difference .result) (c .before .symbol-of .result)
+pays c = c .paid .ensures ∙ ap (λ y. pay y (c .before .symbol-of .result)) (whole (c .before .before .before .before .difference .result) (record { sfits = c .before .before .before .before .difference .ok }))
+
+-- The penalty stays small.
+small : (c : tie.After-paid Inv-loop μ-loop) → (let l = c .before .before .before .before .before .before .before .before .before .before .before .before .loop in l .penalty + c .paid .result ≤ 65264)
+small c =
+    let l = c .before .before .before .before .before .before .before .before .before .before .before .before .loop in
+    let r = c .before .before .before .before .before .before .before .before .before .before .before .before .before .before in
+    omega (
+      arith,
+      pays c,
+      r .pre .0 .1,
+      next-bound (r .args .kernel) _ _ _ (r .args .start) (l .s) _ _ _ _ _ _ (l .inv) (search needs) _ (found (c .before .before .before .before)) _ (owned (c .before))
+          (c .before .before .before .before .before .before .before .step .result) (c .before .before .before .before .before .before .before .step .ensures) _ refl (most (c .before .before .before .before .before .before .before .before .before .before .before .before .before)),
+    )
+
+add-penalty : tie.Need-add-penalty Inv-loop μ-loop
+add-penalty c = omega (arith, small c)
+
+cast-scores : tie.Need-cast-scores Inv-loop μ-loop
+cast-scores c =
+    let e = c .before .before .before .before in
+    let l = c .before .before .before .before .before .before .before .before .before .before .before .before .loop in
+    let r = c .before .before .before .before .before .before .before .before .before .before .before .before .before .before in
+    rw (toZ-ofZ (record { sfits = e .difference .ok }))
+    (score-fits (r .args .kernel) (r .pre .0 .0) (c .before .before .before .before .before .before .before .before .before .before .before .before .before .cost-rows .result) (most (c .before .before .before .before .before .before .before .before .before .before .before .before .before)) (l .symbols) _ (c .before .before .before .before .before .before .before .before .before .before .before .before .before .before .pre .1 .0 .0) (l .s) (search needs) _ (found e))
+
+mul-scores : tie.Need-mul-scores Inv-loop μ-loop
+mul-scores c = search needs
+
+array-set-from-scores : tie.Need-array-set-from-scores Inv-loop μ-loop
+array-set-from-scores c = search needs
+
+cast-penalties : tie.Need-cast-penalties Inv-loop μ-loop
+cast-penalties c = omega (arith, small c)
+
+mul-penalties : tie.Need-mul-penalties Inv-loop μ-loop
+mul-penalties c = search needs
+
+array-write-penalties : tie.Need-array-write-penalties Inv-loop μ-loop
+array-write-penalties c = search needs
+
+with-bit-requires : tie.Need-with-bit-requires Inv-loop μ-loop
+with-bit-requires c κs = search needs
+
+add-s : tie.Need-add-s Inv-loop μ-loop
+add-s c = search needs
+
+loop-less : tie.Need-loop-less Inv-loop μ-loop
+loop-less c = search needs
+
+loop-again : tie.Need-loop-again Inv-loop μ-loop
+loop-again c =
+    let l = c .before .before .before .before .before .before .before .before .before .before .before .before .before .loop in
+    let r = c .before .before .before .before .before .before .before .before .before .before .before .before .before .before .before in
+    let e = c .before .before .before .before .before in
+    let d = e .difference .result in
+    let f = score-fits (r .args .kernel) (r .pre .0 .0) (c .before .before .before .before .before .before .before .before .before .before .before .before .before .before .cost-rows .result) (most (c .before .before .before .before .before .before .before .before .before .before .before .before .before .before)) (l .symbols) _ (c .before .before .before .before .before .before .before .before .before .before .before .before .before .before .before .pre .1 .0 .0) (l .s) (search needs) _ (found e) in
+    phase-turn (r .args .kernel) _ _ _ (r .args .start) (l .s) _ _ _ _ _ _ (l .inv) (search needs) d (found e) _ (owned (c .before .before))
+    (c .before .before .before .before .before .before .before .before .step .result) (c .before .before .before .before .before .before .before .before .step .ensures) _ (c .with-bit .ensures)
+    _ (narrow d (record { sfits = e .difference .ok }) f) _ (pays (c .before))
+
+returns : tie.Need-returns Inv-loop μ-loop
+returns c =
+    let l = c .before .loop in
+    let r = c .before .before .before in
+    run-of (r .args .kernel) (r .args .values .now) _ (c .before .before .cost-rows .ensures .0) (r .args .free) (r .args .given) (r .args .start) (l .symbols) (l .scores) (l .penalties) (l .rows) (l .own) (l .penalty) (l .s)
+    (search needs) (l .inv)
+
+pub kernel-run-spec : {M : Type 1} → statement M
+kernel-run-spec =
+    tie.close
+    (tie.spec
+    Inv-loop
+    μ-loop
+    cost-rows-requires
+    loop-holds
+    mul-shape
+    element-copy-out-shape
+    mul-step
+    index-1-step
+    step-requires
+    path-count-requires
+    difference-requires
+    word-bit-requires
+    word-bit-requires-2
+    symbol-of-requires
+    paid-requires
+    add-penalty
+    cast-scores
+    mul-scores
+    array-set-from-scores
+    cast-penalties
+    mul-penalties
+    array-write-penalties
+    with-bit-requires
+    add-s
+    loop-less
+    loop-again
+    returns)

@@ -1,0 +1,105 @@
+// One run of a kernel: its sixteen phases in order, each symbol given or free.
+ghost use mathlib.Core.Path.{_≡_};
+ghost use mathlib.Core.List.{[]};
+ghost use Prim.Native.Nat.{_+_, _≤_, _<_};
+ghost use lib.IntN.{natAbs};
+ghost use lib.ListN.{length, getD};
+ghost use lib.Seq.{paste};
+ghost use Rattle.bits.specs.Packed.{bits};
+ghost use Rattle.polar.specs.Code.{pay};
+ghost use Rattle.folds.specs.Range.{firstOutside};
+ghost use Rattle.windows.specs.Tables.{shapeTable, pathTable};
+ghost use Rattle.run.specs.Run.{withBit, symbolBy, KernelRun};
+
+// Sixteen bits with bit i set where b says so.
+pub fn with_bit(x: u16, i: usize, b: bool) -> u16
+    requires { ⌜ i < 16 ⌝ }
+    ensures { λ r. ⌜ bits 16 r ≡ withBit (bits 16 x) i b ⌝ }
+{
+    if b { bits::with_word_bit(x, i) } else { x }
+}
+
+// What a score pays for a symbol.
+fn paid(score: i32, symbol: bool) -> u32
+    requires { ⌜ natAbs score ≤ 32752 ⌝ }
+    ensures { λ r. ⌜ r ≡ pay score symbol ⌝ }
+{
+    if score < 0 {
+        if symbol { 0 } else { (0 - score) as u32 }
+    } else {
+        if symbol { score as u32 } else { 0 }
+    }
+}
+
+// A symbol by its source: the sign of the score where it is free, else the one that is given.
+fn symbol_of(free: bool, given: bool, score: i32) -> bool
+    ensures { λ r. ⌜ r ≡ symbolBy free given score ⌝ }
+{
+    if free { score < 0 } else { given }
+}
+
+// The symbols, scores and penalties of a run.
+pub struct Run {
+    pub symbols: u16,
+    pub scores: [i16; 16],
+    pub penalties: [u16; 16],
+}
+
+// A kernel's run over sixteen channel values: at each phase the two rows of best scores, their difference as the score, the
+// symbol by its source, and what it pays, counted on from start.
+pub fn kernel_run(
+    kernel: usize,
+    shapes: &[[u8; 2]; 16],
+    tables: &[[u16; 16]; 16],
+    values: &[i16],
+    free: u16,
+    given: u16,
+    start: u32,
+) -> Run
+    requires { ⌜ (kernel < 3) × (start ≤ 32512) ⌝ }
+    requires { ⌜ (now shapes ≡ getD shapeTable kernel []) × (now tables ≡ getD pathTable kernel []) ⌝ }
+    requires { ⌜ (length (now values) ≡ 16) × (firstOutside 2047 (now values) ≡ 16) ⌝ }
+    ensures { λ r. ⌜ KernelRun kernel (now (values .entry)) free given start (r .symbols) (r .scores) (r .penalties) ⌝ }
+{
+    let costs = folds::cost_rows(values);
+    let mut symbols: u16 = 0;
+    let mut scores = [0i16; 16];
+    let mut penalties = [0u16; 16];
+    let mut rows = [[0i32; 16]; 2];
+    let mut own = false;
+    let mut penalty = start;
+    let mut s: usize = 0;
+    while s < 16 {
+        let shape = shapes[s];
+        let next = step::step(kernel, s, shape, &tables[s], &costs, symbols, rows, own);
+        let score = step::difference(&next, step::path_count(shape, s));
+        own = symbol_of(
+            bits::word_bit(free as u32, s),
+            bits::word_bit(given as u32, s),
+            score,
+        );
+        penalty += paid(score, own);
+        scores[s] = score as i16;
+        penalties[s] = penalty as u16;
+        symbols = with_bit(symbols, s, own);
+        rows = next;
+        s += 1;
+    }
+    Run {
+        symbols,
+        scores,
+        penalties,
+    }
+}
+
+// Writes sixteen scores from a place on.
+pub fn store_scores(found: [i16; 16], at: usize, out: &mut [i16])
+    requires { ⌜ at + 16 ≤ length (now out) ⌝ }
+    ensures { λ _. ⌜ now (out .exit) ≡ paste (now (out .entry)) at found 16 ⌝ }
+{
+    let mut i: usize = 0;
+    while i < 16 {
+        out[at + i] = found[i];
+        i += 1;
+    }
+}
