@@ -1,24 +1,27 @@
 // Frame follow and frame decode: row after row, sixteen outer kernels and the inner one over their scores.
 ghost use mathlib.Core.Path.{_≡_};
-ghost use Prim.Native.Nat.{_+_, _<_};
+ghost use lib.ListN.{length};
 ghost use Rattle.folds.specs.Range.{firstOutside};
 ghost use Rattle.answer.specs.Verdict.{verdict, done, settle};
 ghost use Rattle.mask.specs.Mask.{payloadBytes};
 ghost use Rattle.decode.specs.Jobs.{frameFollowChecks, frameFollow, frameDecodeChecks, frameDecode};
 use answer::Answer;
 
-// The lowest index whose value lies outside -127 to 127, or the number of values.
-fn first_low(values: &[i8]) -> usize
+// The lowest index whose value lies outside -127 to 127, or 256, block by block.
+fn first_outside(values: &[i8]) -> usize
+    requires { ⌜ length (now values) ≡ 256 ⌝ }
     ensures { λ r. ⌜ r ≡ firstOutside 127 (now (values .entry)) ⌝ }
 {
-    let mut i: usize = 0;
-    while i < values.len() {
-        if values[i] < -127 {
-            return i;
+    let mut j: usize = 0;
+    while j < 16 {
+        let block = frame_run::block_values(values, j);
+        let place = folds::first_outside(&block, 127);
+        if place < 16 {
+            return 16 * j + place;
         }
-        i += 1;
+        j += 1;
     }
-    i
+    256
 }
 
 // The checks of frame follow, in checking order.
@@ -47,7 +50,7 @@ fn follow_check(
     if penalty_room < 256 {
         return Answer::ShortOutput;
     }
-    let place = first_low(values);
+    let place = first_outside(values);
     if place < 256 {
         return Answer::ValueOutOfRange(place);
     }
@@ -123,9 +126,9 @@ fn decode_check(
     if payload_room < bytes {
         return Answer::ShortOutput;
     }
-    let low = first_low(values);
-    if low < 256 {
-        return Answer::ValueOutOfRange(low);
+    let place = first_outside(values);
+    if place < 256 {
+        return Answer::ValueOutOfRange(place);
     }
     Answer::Done
 }
@@ -156,12 +159,13 @@ pub fn frame_decode(
     if !answer::accepted(answer) {
         return answer;
     }
+    let none = [0u16; 16];
     let rows = frame_run::frame_run(
         inner as usize,
         outer as usize,
         values,
         grid::rows_of(mask),
-        [0u16; 16],
+        none,
         scores,
         penalties,
     );

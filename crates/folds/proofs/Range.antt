@@ -1,17 +1,17 @@
 -- Laws of the first value outside the range. Assumes nothing.
-use mathlib.Core.Path.{_≡_, refl, ap, _∙_}
-use mathlib.Core.Bool.{Bool, true, false, false≢true}
-use mathlib.Core.List.{List, [], _∷_}
+use mathlib.Core.Path.{_≡_, refl, sym, ap, ap₂, _∙_}
+use mathlib.Core.Bool.{Bool, true, false}
+use mathlib.Core.List.{List, [], _∷_, _++_}
 use Prim.Native.Nat.{ℕ, zero, suc, _+_, _≤_, _<_}
+use native.Mathlib.Nat.{zero-add}
 use native.Mathlib.Numerals.{add-one}
 use native.Mathlib.Decide.{decLt}
 use native.Mathlib.Omega.{arith}
-use borrow.Author.Tests.{ltb-true, ltb-false, lt-leb, le-leb, leb-true, leb-false}
+use borrow.Author.Tests.{leb-true, leb-false}
 use lib.Dec.{leb}
-use lib.IntN.{ℤ, pos, negsuc, natAbs}
-use lib.ListN.{length, getD, drop}
-use lib.Seq.{drop-cons, drop-length}
-use lib.Signed.{ltZ}
+use lib.IntN.{ℤ, pos, natAbs}
+use lib.ListN.{length, getD, take, drop, length-drop, take-append-drop}
+use lib.Seq.{drop-cons, drop-length, drop-drop, length-take-le, getD-take, getD-drop, ext-getD}
 use Rattle.folds.specs.Range.{firstOutside}
 
 -- ---- what the number says of the values
@@ -64,18 +64,6 @@ outside-none limit ys e i l = outside-lowest limit ys i (omega arith)
 
 -- ---- the search
 
-low : (y : ℤ) → ltZ y (negsuc 2046) ≡ true → leb (natAbs y) 2047 ≡ false
-low (pos n) t = absurd (false≢true t)
-low (negsuc n) t = lt-leb (suc n) 2047 (omega (arith, ltb-true 2046 n t))
-
-high : (k : ℕ) (y : ℤ) → 2047 ≤ k → ltZ (pos k) y ≡ true → leb (natAbs y) 2047 ≡ false
-high k (pos n) l t = lt-leb n 2047 (omega (arith, ltb-true k n t))
-high k (negsuc n) l t = absurd (false≢true t)
-
-inside : (y : ℤ) → ltZ y (negsuc 2046) ≡ false → ltZ (pos 2047) y ≡ false → leb (natAbs y) 2047 ≡ true
-inside (pos n) s t = le-leb n 2047 (ltb-false 2047 n t)
-inside (negsuc n) s t = le-leb (suc n) 2047 (omega (arith, ltb-false 2046 n s))
-
 is-outside : (limit : ℕ) (y : ℤ) (ys : List ℤ) → leb (natAbs y) limit ≡ false → firstOutside limit (y ∷ ys) ≡ 0
 unfolding firstOutside
 is-outside limit y ys t = ap (λ c. elim c [ true ↦ suc (firstOutside limit ys) | false ↦ 0 ]) t
@@ -107,15 +95,44 @@ passed-all limit ys i p q e =
     let f : firstOutside limit (drop i ys) ≡ 0 = rw (s, drop-length ys) in
     omega arith
 
-module _ (ys : List ℤ) (i : ℕ) (h : i < length ys) (e : Passed 2047 ys i) where
-  -- The search ends at a value below the range.
-  pub found-low : ltZ (getD ys i (pos 0)) (negsuc 2046) ≡ true → i ≡ firstOutside 2047 ys
-  found-low t = found 2047 ys i h e (low (getD ys i (pos 0)) t)
+-- ---- the search block by block
 
-  -- The search ends at a value above the range.
-  pub found-high : (k : ℕ) → 2047 ≤ k → ltZ (pos k) (getD ys i (pos 0)) ≡ true → i ≡ firstOutside 2047 ys
-  found-high k l t = found 2047 ys i h e (high k (getD ys i (pos 0)) l t)
+outside-front : (limit : ℕ) (xs ys : List ℤ) → firstOutside limit xs < length xs → firstOutside limit (xs ++ ys) ≡ firstOutside limit xs
+unfolding firstOutside
+outside-front limit [] ys l = absurd (omega arith)
+outside-front limit (x ∷ xs) ys l = go (leb (natAbs x) limit) l (outside-front limit xs ys)
+  where
+    go : (c : Bool) → elim c [ true ↦ suc (firstOutside limit xs) | false ↦ 0 ] < suc (length xs)
+        → (firstOutside limit xs < length xs → firstOutside limit (xs ++ ys) ≡ firstOutside limit xs)
+        → _≡_ {A = ℕ} (elim c [ true ↦ suc (firstOutside limit (xs ++ ys)) | false ↦ 0 ]) (elim c [ true ↦ suc (firstOutside limit xs) | false ↦ 0 ])
+    go true l ih = ap suc (ih (omega arith))
+    go false l ih = refl
 
-  -- The search passes a value that is neither.
-  pub pass : ltZ (getD ys i (pos 0)) (negsuc 2046) ≡ false → ltZ (pos 2047) (getD ys i (pos 0)) ≡ false → Passed 2047 ys (i + 1)
-  pass s t = passed 2047 ys i h e (inside (getD ys i (pos 0)) s t)
+outside-past : (limit : ℕ) (xs ys : List ℤ) → length xs ≤ firstOutside limit xs → firstOutside limit (xs ++ ys) ≡ length xs + firstOutside limit ys
+unfolding firstOutside
+outside-past limit [] ys l = sym (zero-add (firstOutside limit ys))
+outside-past limit (x ∷ xs) ys l = go (leb (natAbs x) limit) l (outside-past limit xs ys)
+  where
+    go : (c : Bool) → suc (length xs) ≤ elim c [ true ↦ suc (firstOutside limit xs) | false ↦ 0 ]
+        → (length xs ≤ firstOutside limit xs → firstOutside limit (xs ++ ys) ≡ length xs + firstOutside limit ys)
+        → elim c [ true ↦ suc (firstOutside limit (xs ++ ys)) | false ↦ 0 ] ≡ suc (length xs) + firstOutside limit ys
+    go true l ih = omega (arith, ih (omega arith))
+    go false l ih = absurd (omega arith)
+
+module _ (limit : ℕ) (ys : List ℤ) (i n : ℕ) (h : i + n ≤ length ys) (e : Passed limit ys i)
+    (block : List ℤ) (lb : length block ≡ n) (is : (t : ℕ) → t < n → getD block t (pos 0) ≡ getD ys (i + t) (pos 0)) where
+  rest : drop i ys ≡ block ++ drop (i + n) ys
+  rest =
+      sym (take-append-drop n (drop i ys))
+      ∙ ap₂ (λ (x y : List ℤ). x ++ y)
+      (sym (ext-getD (pos 0) block (take n (drop i ys)) (lb ∙ sym (length-take-le n (drop i ys) (omega (arith, length-drop i ys))))
+      (λ t l. is t (omega arith) ∙ sym (getD-take n (drop i ys) t (pos 0) (omega arith) ∙ getD-drop i ys t (pos 0)))))
+      (drop-drop n i ys)
+
+  -- The search ends in the block,
+  pub found-in : firstOutside limit block < n → i + firstOutside limit block ≡ firstOutside limit ys
+  found-in l = let f = ap (firstOutside limit) rest ∙ outside-front limit block (drop (i + n) ys) (omega arith) in omega arith
+
+  -- or passes it.
+  pub passed-block : n ≤ firstOutside limit block → Passed limit ys (i + n)
+  passed-block l = let f = ap (firstOutside limit) rest ∙ outside-past limit block (drop (i + n) ys) (omega arith) in omega arith

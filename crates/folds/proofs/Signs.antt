@@ -25,6 +25,11 @@ neg-mag (pos zero) h = omega arith
 neg-mag (pos (suc n)) h = omega arith
 neg-mag (negsuc n) h = omega arith
 
+neg-abs : (y : ℤ) → natAbs (negℤ y) ≡ natAbs y
+neg-abs (pos zero) = refl
+neg-abs (pos (suc n)) = refl
+neg-abs (negsuc n) = refl
+
 neg-fit : (y : ℤ) → ltZ y (pos 0) ≡ true → mag y < 2 ^ 15 → T (nonNeg (negℤ y)) × Fits w32 (natAbs (negℤ y))
 neg-fit (pos n) t h = absurd (omega (arith, ltb-true n 0 t))
 neg-fit (negsuc n) t h = (tt, record { fits = omega arith })
@@ -70,6 +75,13 @@ module _ (y : ℤ) (h : mag y < 2 ^ 15) where
   pub neg-cast : ltZ (wide y) (pos 0) ≡ true
       → T (nonNeg (toZ w32 (ofZ w32 (pos 0 -ℤ wide y)))) × Fits w32 (natAbs (toZ w32 (ofZ w32 (pos 0 -ℤ wide y))))
   neg-cast t = rw neg-back (neg-fit y (rw wide-is at t) h)
+
+  -- Either way it is the value's size.
+  pub neg-size : natAbs (toZ w32 (ofZ w32 (pos 0 -ℤ wide y))) ≡ natAbs y
+  neg-size = ap natAbs neg-back ∙ neg-abs y
+
+  pub pos-size : natAbs (wide y) ≡ natAbs y
+  pos-size = ap natAbs wide-is
 
   -- A negative value pays its size for bit 0, and nothing for bit 1.
   pub neg-cost : ltZ (wide y) (pos 0) ≡ true → (natAbs (toZ w32 (ofZ w32 (pos 0 -ℤ wide y))) ≡ pay y false) × (0 ≡ pay y true)

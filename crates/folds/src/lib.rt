@@ -2,7 +2,7 @@
 ghost use mathlib.Core.Path.{_≡_};
 ghost use mathlib.Core.Bool.{Bool, true, false};
 ghost use Prim.Native.Nat.{ℕ, _+_, _-_, _≤_, _<_, min};
-ghost use lib.IntN.{pos, negℤ};
+ghost use lib.IntN.{pos, negℤ, natAbs};
 ghost use lib.ListN.{length};
 ghost use Rattle.base.specs.Bit;
 ghost use Rattle.bits.specs.Packed.{bits};
@@ -11,17 +11,21 @@ ghost use Rattle.polar.specs.Fold.{freeFold, knownFold};
 ghost use Rattle.folds.specs.Range.{firstOutside};
 ghost use Rattle.folds.specs.Rows.{costsOf, Within, IsGreatest, select, Pays};
 
-// The lowest index whose value lies outside -2047 to 2047, or the number of values.
-pub fn first_outside(values: &[i16]) -> usize
-    ensures { λ r. ⌜ r ≡ firstOutside 2047 (now (values .entry)) ⌝ }
+// The size of a value.
+fn size(y: i16) -> u32
+    ensures { λ r. ⌜ r ≡ natAbs y ⌝ }
+{
+    let x = y as i32;
+    if x < 0 { (0 - x) as u32 } else { x as u32 }
+}
+
+// The lowest index whose value lies outside -limit to limit, or the number of values.
+pub fn first_outside(values: &[i16], limit: u32) -> usize
+    ensures { λ r. ⌜ r ≡ firstOutside limit (now (values .entry)) ⌝ }
 {
     let mut i: usize = 0;
     while i < values.len() {
-        let y = values[i];
-        if y < -2047 {
-            return i;
-        }
-        if y > 2047 {
+        if limit < size(values[i]) {
             return i;
         }
         i += 1;

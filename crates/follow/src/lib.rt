@@ -17,7 +17,7 @@ fn follow_check(kernel: u8, values: &[i16], room: usize) -> Answer
     if room < 16 {
         return Answer::ShortOutput;
     }
-    let place = folds::first_outside(values);
+    let place = folds::first_outside(values, 2047);
     if place < 16 {
         return Answer::ValueOutOfRange(place);
     }

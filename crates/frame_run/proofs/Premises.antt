@@ -6,11 +6,9 @@ use Prim.Native.Nat.{ℕ, _-_, _^_, _≤_, _<_}
 use native.Mathlib.Nat.{le-trans}
 use native.Mathlib.Decide.{decLt}
 use native.Mathlib.Omega.{arith}
-use lib.IntN.{ℤ, pos, negsuc, natAbs}
+use lib.IntN.{ℤ, pos, natAbs}
 use lib.ListN.{length, getD, List·getD-eq-default}
 use lib.Seq.{length-take-le}
-use mir.Syntax.{w16}
-use mir.Val.{SFits}
 use Rattle.base.specs.Bit.{bit}
 use Rattle.base.proofs.Bool.{parity-cong}
 use Rattle.bits.specs.Packed.{bits}
@@ -56,10 +54,6 @@ channel-most n ys e i b = go (decLt i (length ys))
 pub penalty-small : (a b : ℕ) (ys : List ℤ) → firstOutside 127 ys ≡ length ys → (u : List Bool) → least (frameCode a b) (channel ys) u ≤ 32512
 penalty-small a b ys e u = least-bound (frameCode a b) (channel ys) 127 (channel-most 127 ys e) u
 
-fits : (z : ℤ) → ((b : Bool) → pay z b ≤ 2032) → SFits w16 z
-fits (pos y) h = record { sfits = omega (arith, h true) }
-fits (negsuc y) h = record { sfits = omega (arith, h false) }
-
 module _ (k : ℕ) (lk : k < 3) (costs : List (List (List ℕ))) (most : (j : ℕ) → j < 16 → Within 127 (getD costs j [])) (columns : List ℕ)
     (shapes : List (List ℕ)) (es : shapes ≡ getD shapeTable k []) (r : ℕ) (lr : r < 16)
     (rows3 : List (List (List ℤ))) (held : (j : ℕ) → j < 16 → Held k (costsAt costs j) (before r columns j) (getD rows3 j []))
@@ -74,9 +68,6 @@ module _ (k : ℕ) (lk : k < 3) (costs : List (List (List ℕ))) (most : (j : �
   -- are small,
   pub outer-small : (j : ℕ) → j < 16 → (d : ℤ) → IsDifference (getD rows3 j []) n d → (b : Bool) → pay d b ≤ 2032
   outer-small j l d h b = rw (outer-score j l d h) (score-bound (kernelCode k) (costsAt costs j) 127 (most j l) (before r columns j) b)
-
-  pub outer-fits : (j : ℕ) → j < 16 → (d : ℤ) → IsDifference (getD rows3 j []) n d → SFits w16 d
-  outer-fits j l d h = fits d (outer-small j l d h)
 
   -- and so are the entries of the rows.
   pub outer-asks : ((0 < n) × (n ≤ 16)) × ((j : ℕ) → j < 16 → (w : ℕ) (b : Bool) → w < n → natAbs (cell (pos 0) (getD rows3 j []) w b) ≤ 2032)

@@ -14,7 +14,7 @@ ghost use Rattle.frame_run.specs.Run.{Ready, FrameRun};
 use run::Run;
 
 // The values of outer kernel j.
-fn block_values(values: &[i8], j: usize) -> [i16; 16]
+pub fn block_values(values: &[i8], j: usize) -> [i16; 16]
     requires { ⌜ (length (now values) ≡ 256) × (j < 16) ⌝ }
     ensures { λ r. ⌜ ((t : ℕ) → t < 16 → getD r t (pos 0) ≡ getD (now (values .entry)) (16 * j + t) (pos 0)) ⌝ }
 {

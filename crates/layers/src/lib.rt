@@ -3,10 +3,8 @@ ghost use mathlib.Core.Path.{_≡_};
 ghost use mathlib.Core.Bool.{Bool};
 ghost use mathlib.Core.List.{[]};
 ghost use Prim.Native.Nat.{ℕ, _≤_, _<_};
-ghost use lib.IntN.{ℤ, pos, natAbs};
+ghost use lib.IntN.{pos, natAbs};
 ghost use lib.ListN.{getD};
-ghost use mir.Val.{SFits};
-ghost use mir.Syntax.{w16};
 ghost use Rattle.base.specs.Bit;
 ghost use Rattle.bits.specs.Packed.{bits};
 ghost use Rattle.folds.specs.Rows.{cell, Within};
@@ -56,7 +54,6 @@ pub fn outer_rows(
 pub fn outer_scores(rows: &[[[i32; 16]; 2]; 16], n: usize) -> [i16; 16]
     requires { ⌜ (0 < n) × (n ≤ 16) ⌝ }
     requires { ⌜ ((j : ℕ) → j < 16 → (w : ℕ) (b : Bool) → w < n → natAbs (cell (pos 0) (getD (now rows) j []) w b) ≤ 2032) ⌝ }
-    requires { ⌜ ((j : ℕ) → j < 16 → (d : ℤ) → IsDifference (getD (now rows) j []) n d → SFits w16 d) ⌝ }
     ensures { λ r. ⌜ ((j : ℕ) → j < 16 → IsDifference (getD (now (rows .entry)) j []) n (getD r j (pos 0))) ⌝ }
 {
     let mut out = [0i16; 16];

@@ -1,41 +1,45 @@
 -- `folds::first_outside` meets its contract. The search has passed i values, and its answer is i more than that for the others. Assumes nothing.
-use mathlib.Core.Path.{sym}
+use mathlib.Core.Path.{_≡_, sym, ap, _∙_}
 use Prim.Native.Nat.{_-_, _≤_}
 use native.Mathlib.Nat.{zero-add}
+use native.Mathlib.Omega.{arith}
 use borrow.Author.Needs.{needs}
-use lib.IntN.{pos}
+use borrow.Author.Tests.{lt-leb, le-leb}
+use lib.IntN.{pos, natAbs}
 use lib.ListN.{length, getD}
-use Rattle.folds.proofs.Range.{Passed, found-low, found-high, pass, passed-all}
+use Rattle.folds.proofs.Range.{Passed, found, passed, passed-all}
 use Rattle.folds.proofs.Signs.{read-is}
 use Rattle.folds.proofs.first_outside.Statement.{statement}
 use Rattle.folds.proofs.first_outside.Tie as tie
 
 abbrev Inv-loop : tie.InvT-loop
-Inv-loop values i₀ i = (i ≤ length values) × Passed 2047 values i
+Inv-loop values limit i₀ i = (i ≤ length values) × Passed limit values i
 
 abbrev μ-loop : tie.MeasureT-loop
-μ-loop values i₀ i = length values - i
+μ-loop values limit i₀ i = length values - i
 
 loop-holds : tie.Need-loop-holds Inv-loop μ-loop
 loop-holds c = (search needs, sym (zero-add _))
 
-mul-y : tie.Need-mul-y Inv-loop μ-loop
-mul-y c = search needs
+mul-size : tie.Need-mul-size Inv-loop μ-loop
+mul-size c = search needs
 
-shared-slice-copy-out-y : tie.Need-shared-slice-copy-out-y Inv-loop μ-loop
-shared-slice-copy-out-y c = search needs
+shared-slice-copy-out-size : tie.Need-shared-slice-copy-out-size Inv-loop μ-loop
+shared-slice-copy-out-size c = search needs
+
+size-requires : tie.Need-size-requires Inv-loop μ-loop
+size-requires c κs = search needs
+
+-- The size that is tested.
+sized : (c : tie.After-size Inv-loop μ-loop) → c .size .result ≡ natAbs (getD (c .before .before .before .before .args .values .now) (c .before .before .before .loop .i) (pos 0))
+sized c =
+    c .size .ensures ∙ ap natAbs (read-is (getD (c .before .before .before .before .args .values .now) (c .before .before .before .loop .i) (pos 0)) (c .before .size-arg .given))
 
 returns : tie.Need-returns Inv-loop μ-loop
 returns c =
-    found-low (c .before .before .before .before .args .values .now) (c .before .before .before .loop .i) (search needs)
-    (c .before .before .before .loop .inv .1)
-    (rw (read-is _ (c .before .y .given)) at (c .if1 .taken))
-
-returns-2 : tie.Need-returns-2 Inv-loop μ-loop
-returns-2 c =
-    found-high (c .before .before .before .before .before .args .values .now) (c .before .before .before .before .loop .i) (search needs)
-    (c .before .before .before .before .loop .inv .1) _ (search needs)
-    (rw (read-is _ (c .before .before .y .given)) at (c .if2 .taken))
+    let l = c .before .before .before .before .loop in
+    let a = c .before .before .before .before .before .args in
+    found (a .limit) (a .values .now) (l .i) (search needs) (l .inv .1) (lt-leb (natAbs (getD (a .values .now) (l .i) (pos 0))) (a .limit) (omega (arith, sized (c .before), c .if1 .taken)))
 
 add-i : tie.Need-add-i Inv-loop μ-loop
 add-i c = search needs
@@ -45,13 +49,12 @@ loop-less c = search needs
 
 loop-again : tie.Need-loop-again Inv-loop μ-loop
 loop-again c =
-    let ys = c .before .before .before .before .before .args .values .now in
-    let k = c .before .before .before .before .loop in
-    let e = read-is (getD ys (k .i) (pos 0)) (c .before .before .y .given) in
-    (search needs, pass ys (k .i) (search needs) (k .inv .1) (rw e at (c .before .if1 .left)) (rw e at (c .if2 .left)))
+    let l = c .before .before .before .before .loop in
+    let a = c .before .before .before .before .before .args in
+    (search needs, passed (a .limit) (a .values .now) (l .i) (search needs) (l .inv .1) (le-leb (natAbs (getD (a .values .now) (l .i) (pos 0))) (a .limit) (omega (arith, sized (c .before), c .if1 .left))))
 
-returns-3 : tie.Need-returns-3 Inv-loop μ-loop
-returns-3 c = passed-all 2047 (c .before .before .args .values .now) (c .before .loop .i) (c .before .loop .inv .0) (search needs) (c .before .loop .inv .1)
+returns-2 : tie.Need-returns-2 Inv-loop μ-loop
+returns-2 c = passed-all (c .before .before .args .limit) (c .before .before .args .values .now) (c .before .loop .i) (c .before .loop .inv .0) (search needs) (c .before .loop .inv .1)
 
 pub first-outside-spec : {M : Type 1} → statement M
 first-outside-spec =
@@ -60,11 +63,11 @@ first-outside-spec =
     Inv-loop
     μ-loop
     loop-holds
-    mul-y
-    shared-slice-copy-out-y
+    mul-size
+    shared-slice-copy-out-size
+    size-requires
     returns
-    returns-2
     add-i
     loop-less
     loop-again
-    returns-3)
+    returns-2)

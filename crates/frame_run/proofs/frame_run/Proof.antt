@@ -13,8 +13,9 @@ use Rattle.kernel.specs.Rows.{rowSum}
 use Rattle.grid.specs.Grid.{rowsBits}
 use Rattle.grid.proofs.Grid.{rows-bits-at}
 use Rattle.windows.proofs.Stepping.{in-range}
+use Rattle.frame_run.specs.Run.{front}
 use Rattle.frame_run.proofs.Rows.{AfterRows, no-row, row-turn, all-rows, zeros-at}
-use Rattle.frame_run.proofs.Premises.{word-of, penalty-small, outer-score, outer-fits, outer-asks, found-inside}
+use Rattle.frame_run.proofs.Premises.{word-of, penalty-small, outer-score, outer-asks, found-inside}
 use borrow.Author.Needs.{needs}
 use Rattle.frame_run.proofs.frame_run.Statement.{statement}
 use Rattle.frame_run.proofs.frame_run.Tie as tie
@@ -40,10 +41,10 @@ tables-of-requires-2 : tie.Need-tables-of-requires-2 Inv-loop μ-loop
 tables-of-requires-2 c κs = (c .before .before .before .before) .pre .outer
 
 cast-kernel-rows : tie.Need-cast-kernel-rows Inv-loop μ-loop
-cast-kernel-rows c = omega (arith, (c .before .before .before .before .before) .pre .inner)
+cast-kernel-rows c = let z = c .before .before .before .before .before in omega (arith, z .pre .inner, z .pre .outer)
 
 kernel-rows-requires : tie.Need-kernel-rows-requires Inv-loop μ-loop
-kernel-rows-requires c κs = (c .before .before .before .before .before) .pre .inner
+kernel-rows-requires c κs = let z = c .before .before .before .before .before in omega (arith, z .pre .inner, z .pre .outer)
 
 outer-costs-requires : tie.Need-outer-costs-requires Inv-loop μ-loop
 outer-costs-requires c κs = let z = c .before .before .before .before .before .before in (z .pre .count, z .pre .inside)
@@ -83,8 +84,7 @@ outer-scores-requires c κs =
     let q = c .before .before .before .before .before .before .before in
     let z = q .before .before .before .before .before .before .before .before in
     let h = c .before .before .outer-rows in
-    let asked = outer-asks (z .args .outer) (z .pre .outer) (q .before .outer-costs .result) (q .before .outer-costs .ensures .1) (q .loop .columns) _ (q .before .before .before .before .shapes-of2 .ensures) (q .loop .r) (search needs) (h .result) (h .ensures) (c .path-count .result) (c .path-count .ensures) in
-    (asked .0, (asked .1, outer-fits (z .args .outer) (z .pre .outer) (q .before .outer-costs .result) (q .before .outer-costs .ensures .1) (q .loop .columns) _ (q .before .before .before .before .shapes-of2 .ensures) (q .loop .r) (search needs) (h .result) (h .ensures) (c .path-count .result) (c .path-count .ensures)))
+    outer-asks (z .args .outer) (z .pre .outer) (q .before .outer-costs .result) (q .before .outer-costs .ensures .1) (q .loop .columns) _ (q .before .before .before .before .shapes-of2 .ensures) (q .loop .r) (search needs) (h .result) (h .ensures) (c .path-count .result) (c .path-count .ensures)
 
 slice-aggregate-kernel-run : tie.Need-slice-aggregate-kernel-run Inv-loop μ-loop
 slice-aggregate-kernel-run c = search needs
@@ -109,7 +109,7 @@ kernel-run-requires c κs =
     let n = c .before .before .before .before .path-count in
     let f = c .before .before .before .outer-scores in
     let long : length (f .result) ≡ 16 = search needs in (
-      (z .pre .inner, rw (q .loop .inv .0 .penalty-so) (penalty-small (z .args .inner) (z .args .outer) (z .args .values .now) (z .pre .inside ∙ sym (z .pre .count)) _)),
+      (z .pre .inner, omega (arith, q .loop .inv .0 .penalty-so, penalty-small (z .args .inner) (z .args .outer) (z .args .values .now) (z .pre .inside ∙ sym (z .pre .count)) (front (q .loop .r) (q .loop .symbols)))),
       (
         (q .before .before .before .before .before .before .shapes-of .ensures, q .before .before .before .before .before .tables-of .ensures),
         (long, found-inside (z .args .outer) (z .pre .outer) (q .before .outer-costs .result) (q .before .outer-costs .ensures .1) (q .loop .columns) _ (q .before .before .before .before .shapes-of2 .ensures) (q .loop .r) (c .before .before .before .before .before .before .before .before .before .before .loop-test .taken) (h .result) (h .ensures) (n .result) (n .ensures) (f .result) long (f .ensures)),

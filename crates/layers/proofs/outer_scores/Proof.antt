@@ -7,7 +7,10 @@ use lib.ListN.{length, getD}
 use Rattle.base.proofs.List.{each-next}
 use lib.IntN.{pos}
 use mir.Facts.{toZ-ofZ}
+use mir.Syntax.{w16}
+use mir.Val.{SFits}
 use Rattle.windows.specs.Paths.{IsDifference}
+use Rattle.windows.proofs.Edges.{difference-small}
 use Rattle.run.proofs.Narrow.{narrow}
 use borrow.Author.Needs.{needs}
 use Rattle.layers.proofs.outer_scores.Statement.{statement}
@@ -28,17 +31,22 @@ mul-difference c = search needs
 index-1-difference : tie.Need-index-1-difference Inv-loop μ-loop
 index-1-difference c = search needs
 
+-- The first entries are there, also where fewer are looked at than there are.
 difference-requires : tie.Need-difference-requires Inv-loop μ-loop
 difference-requires c κs =
     let p = c .before .before .before .pre in
     let l : c .before .before .loop .j < 16 = search needs in
-    (p .0, λ w d h. omega (arith, p .1 .0 _ l w d h))
+    ((search needs, search needs), λ w d h. omega (arith, p .1 _ l w d (omega (arith, p .0 .0))))
 
-cast-out : tie.Need-cast-out Inv-loop μ-loop
-cast-out c =
+-- A difference of small entries fits sixteen bits.
+narrow-fits : (c : tie.After-difference Inv-loop μ-loop) → SFits w16 (c .difference .result)
+narrow-fits c =
     let p = c .before .before .before .before .pre in
     let l : c .before .before .before .loop .j < 16 = search needs in
-    rw (toZ-ofZ (record { sfits = c .difference .ok })) (p .1 .1 _ l _ (c .difference .ensures))
+    record { sfits = omega (arith, difference-small _ _ 2032 (λ w d h. p .1 _ l w d (omega (arith, p .0 .0))) (c .difference .result) (c .difference .ensures)) }
+
+cast-out : tie.Need-cast-out Inv-loop μ-loop
+cast-out c = rw (toZ-ofZ (record { sfits = c .difference .ok })) (narrow-fits c)
 
 mul-out : tie.Need-mul-out Inv-loop μ-loop
 mul-out c = search needs
@@ -55,14 +63,11 @@ loop-less c = search needs
 loop-again : tie.Need-loop-again Inv-loop μ-loop
 loop-again c =
     let a = c .before .before .before .before .args in
-    let p = c .before .before .before .before .pre in
-    let l = c .before .before .before .loop in
-    let lj : l .j < 16 = search needs in
-    let f = p .1 .1 _ lj _ (c .difference .ensures) in (
+    let l = c .before .before .before .loop in (
       search needs,
       search needs,
       each-next (λ i. IsDifference (getD (a .rows .now) i []) (a .n)) (l .out) (l .j) (pos 0) _ (search needs) (l .inv .2)
-          (subst⁻¹ (IsDifference (getD (a .rows .now) (l .j) []) (a .n)) (narrow (c .difference .result) (record { sfits = c .difference .ok }) f) (c .difference .ensures)),
+          (subst⁻¹ (IsDifference (getD (a .rows .now) (l .j) []) (a .n)) (narrow (c .difference .result) (record { sfits = c .difference .ok }) (narrow-fits c)) (c .difference .ensures)),
     )
 
 returns : tie.Need-returns Inv-loop μ-loop
