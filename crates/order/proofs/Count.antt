@@ -69,7 +69,7 @@ unfolding informationMask informationChecks
 mask-takes p out ok =
     let new = pack 32 (informationBits p) in
     let n = none-of (informationChecks p (length out)) done (ap isAccepted ok) in
-    let h = or-eq-false (ltb p 1) (ltb 32 p) (n .1 .0) in
+    let h = or-eq-false (ltb p 1) (ltb 32 p) (search n) in
     let small : p ≤ 32 = ltb-false 32 p (h .1) in
     let some : 1 ≤ p = ltb-false p 1 (h .0) in
     let front : take 32 ((informationMask p out) .1) ≡ new =

@@ -1,4 +1,5 @@
 -- `quantiser::marks_check` meets its contract: each exit answers the first check that holds. Assumes nothing.
+use native.Mathlib.Omega.{arith}
 use borrow.Author.Tests.{lt-ltb, le-ltb, eq-eqb, ne-eqb}
 use Rattle.quantiser.specs.Jobs.{marksChecks}
 use Rattle.quantiser.proofs.marks_check.Statement.{statement}
@@ -14,7 +15,7 @@ returns-2 c = simp (eq-eqb _ _ (c .before .if1 .left), ne-eqb _ _ (c .if2 .taken
 
 returns-3 : tie.Need-returns-3
 unfolding marksChecks
-returns-3 c = simp (eq-eqb _ _ (c .before .before .if1 .left), eq-eqb _ _ (c .before .if2 .left), lt-ltb _ _ (c .if3 .taken))
+returns-3 c = simp (eq-eqb _ _ (c .before .before .if1 .left), eq-eqb _ _ (c .before .if2 .left), lt-ltb (c .before .before .before .before .before .args .room) 256 (omega (arith, c .if3 .taken)))
 
 first-not-finite-requires : tie.Need-first-not-finite-requires
 first-not-finite-requires c κs = (c .before .before .if1 .left, c .before .if2 .left)
