@@ -1,4 +1,4 @@
-// Frame follow and frame decode: row after row, sixteen outer kernels and the inner one over their scores.
+// Frame follow and frame decode: the checks, and the run of a frame with its symbols given or decided.
 ghost use mathlib.Core.Path.{_≡_};
 ghost use lib.ListN.{length};
 ghost use Rattle.folds.specs.Range.{firstOutside};

@@ -1,10 +1,11 @@
 -- What the acceptance of kernel follow's checks yields, and what the job leaves. Assumes nothing.
 use mathlib.Core.Path.{_≡_, refl, sym, ap, ap₂, _∙_}
-use mathlib.Core.Bool.{Bool, true, false}
+use mathlib.Core.Bool.{Bool, true, false, not}
 use mathlib.Core.List.{List, _++_}
 use Prim.Native.Nat.{ℕ, _≤_, _<_}
 use native.Mathlib.Omega.{arith}
 use borrow.Author.Tests.{not-false, eqb-true, ltb-false}
+use lib.Dec.{eqb, ltb}
 use lib.IntN.{ℤ}
 use lib.ListN.{length, drop}
 use lib.Seq.{paste, take-all}
@@ -34,12 +35,14 @@ pub record Accepted (k : ℕ) (values : List ℤ) (room : ℕ) : Type 0 where
 passes : (k : ℕ) (values : List ℤ) (room : ℕ) → None (kernelFollowChecks k values room) → Accepted k values room
 unfolding kernelFollowChecks
 passes k values room n =
-    let e = eqb-true (length values) 16 (not-false _ (n .1 .0)) in
+    let wrong : not (eqb (length values) 16) ≡ false = search (n .1 .0, n .1 .1 .0) in
+    let short : ltb room 16 ≡ false = search (n .1 .0, n .1 .1 .0) in
+    let e = eqb-true (length values) 16 (not-false _ wrong) in
     let l = ltb-false (firstOutside 2047 values) (length values) (n .1 .1 .1 .0) in
     record {
       known = kernel-lt k (not-false _ (n .0));
       count = e;
-      room-enough = ltb-false room 16 (n .1 .1 .0);
+      room-enough = ltb-false room 16 short;
       inside = omega (arith, outside-le 2047 values);
     }
 
@@ -52,13 +55,15 @@ module _ (k : ℕ) (values : List ℤ) (room : ℕ) (a : isAccepted (settle (ker
   pub accepted-done : settle (kernelFollowChecks k values room) done ≡ done
   accepted-done = settle-none (kernelFollowChecks k values room) done (none-of (kernelFollowChecks k values room) done a)
 
+left : (v w : Verdict) (out new : List ℤ) → v ≡ w → isAccepted v ≡ false → _≡_ {A = Verdict × List ℤ} (w, after w out new) (v, out)
+left v w out new e r = ap (λ (x : Verdict). (x, after x out new)) (sym e) ∙ ap (λ (l : List ℤ). (v, l)) (after-refused v out new r)
+
 -- A refused job leaves its buffer.
 pub refused-job : (k : ℕ) (values : List ℤ) (symbols : ℕ) (out : List ℤ) (v : Verdict) → v ≡ settle (kernelFollowChecks k values (length out)) done
     → isAccepted v ≡ false → kernelFollow k values symbols out ≡ (v, out)
 unfolding kernelFollow
 refused-job k values symbols out v e r =
-    let new = scores (kernelCode k) (channel values) (bits 16 symbols) in
-    ap (λ (x : Verdict). (x, after x out new)) (sym e) ∙ ap (λ (l : List ℤ). (v, l)) (after-refused v out new r)
+    left v _ out _ e r
 
 -- An accepted job leaves the scores and what lies past them.
 pub accepted-job : (k : ℕ) (values : List ℤ) (symbols : ℕ) (out : List ℤ) → isAccepted (settle (kernelFollowChecks k values (length out)) done) ≡ true

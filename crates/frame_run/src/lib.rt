@@ -59,8 +59,8 @@ fn store_run(found: Run, at: usize, scores: &mut [i16], penalties: &mut [u16])
     requires { ⌜ (at + 16 ≤ length (now scores)) × (at + 16 ≤ length (now penalties)) ⌝ }
     ensures { λ _. ⌜ (now (scores .exit) ≡ paste (now (scores .entry)) at (found .scores) 16) × (now (penalties .exit) ≡ paste (now (penalties .entry)) at (found .penalties) 16) ⌝ }
 {
-    let scored = found.scores;
-    run::store_scores(scored, at, scores);
+    let taken = found.scores;
+    run::store_scores(taken, at, scores);
     let paid = found.penalties;
     store_penalties(paid, at, penalties);
 }

@@ -34,17 +34,6 @@ mul-result c = search needs
 add-result : tie.Need-add-result Inv-loop μ-loop
 add-result c = search needs
 
-returns : tie.Need-returns Inv-loop μ-loop
-returns c =
-    let b = c .before .before .before in
-    let l = b .before .before .loop in
-    let z = b .before .before .before in
-    let f = c .before .first-outside in
-    let long : length (b .block-values .result) ≡ 16 = search needs in
-    let i : firstOutside 127 (b .block-values .result) < 16 = omega (arith, f .ensures, c .if1 .taken) in
-    ap (λ n. 16 * l .j + n) (f .ensures)
-    ∙ found-in 127 (z .args .values .now) (16 * l .j) 16 (omega (arith, z .pre)) (l .inv .1) (b .block-values .result) long (b .block-values .ensures) i
-
 add-j : tie.Need-add-j Inv-loop μ-loop
 add-j c = search needs
 
@@ -61,6 +50,17 @@ loop-again c =
     let i : 16 ≤ firstOutside 127 (b .block-values .result) = omega (arith, f .ensures, c .if1 .left) in
     let e : 16 * (l .j + 1) ≡ 16 * l .j + 16 = omega arith in
     (search needs, rw e (passed-block 127 (z .args .values .now) (16 * l .j) 16 (omega (arith, z .pre)) (l .inv .1) (b .block-values .result) long (b .block-values .ensures) i))
+
+returns : tie.Need-returns Inv-loop μ-loop
+returns c =
+    let b = c .before .before .before in
+    let l = b .before .before .loop in
+    let z = b .before .before .before in
+    let f = c .before .first-outside in
+    let long : length (b .block-values .result) ≡ 16 = search needs in
+    let i : firstOutside 127 (b .block-values .result) < 16 = omega (arith, f .ensures, c .if1 .taken) in
+    ap (λ n. 16 * l .j + n) (f .ensures)
+    ∙ found-in 127 (z .args .values .now) (16 * l .j) 16 (omega (arith, z .pre)) (l .inv .1) (b .block-values .result) long (b .block-values .ensures) i
 
 returns-2 : tie.Need-returns-2 Inv-loop μ-loop
 returns-2 c =
