@@ -23,21 +23,21 @@ use Rattle.frame.specs.Jobs.{encodeChecks, encodedFrame, frameEncode, re
 -- ---- frame encode
 
 -- Inputs that pass all checks of frame encode.
-pub record EncodeAccepted (a b : ℕ) (mask : List ℕ) (sent room : ℕ) : Type 0 where
+pub record EncodeAccepted (a b : ℕ) (mask : List ℕ) (payloadLength room : ℕ) : Type 0 where
   pub inner : a < 3
   pub outer : b < 3
   pub count : length mask ≡ 32
   pub good : badMask mask ≡ false
-  pub filled : ones (unpack mask) ≡ 8 * sent
+  pub filled : ones (unpack mask) ≡ 8 * payloadLength
   pub room-enough : 32 ≤ room
 
-encode-passes : (a b : ℕ) (mask : List ℕ) (sent room : ℕ) → None (encodeChecks a b mask sent room) → EncodeAccepted a b mask sent room
+encode-passes : (a b : ℕ) (mask : List ℕ) (payloadLength room : ℕ) → None (encodeChecks a b mask payloadLength room) → EncodeAccepted a b mask payloadLength room
 unfolding encodeChecks
-encode-passes a b mask sent room n =
+encode-passes a b mask payloadLength room n =
     let p = pair-lt a b (not-false _ (n .0)) in
     let e = eqb-true (length mask) 32 (not-false _ (n .1 .0)) in
     let g = n .1 .1 .0 in
-    let s = eqb-true sent (marked mask / 8) (not-false _ (n .1 .1 .1 .0)) in
+    let s = eqb-true payloadLength (marked mask / 8) (not-false _ (n .1 .1 .1 .0)) in
     record {
       inner = p .0;
       outer = p .1;
@@ -47,9 +47,9 @@ encode-passes a b mask sent room n =
       room-enough = ltb-false room 32 (n .1 .1 .1 .1 .0);
     }
 
-pub encode-accepted : (a b : ℕ) (mask : List ℕ) (sent room : ℕ) → isAccepted (settle (encodeChecks a b mask sent room) done) ≡ true
-    → EncodeAccepted a b mask sent room
-encode-accepted a b mask sent room ok = encode-passes a b mask sent room (none-of (encodeChecks a b mask sent room) done ok)
+pub encode-accepted : (a b : ℕ) (mask : List ℕ) (payloadLength room : ℕ) → isAccepted (settle (encodeChecks a b mask payloadLength room) done) ≡ true
+    → EncodeAccepted a b mask payloadLength room
+encode-accepted a b mask payloadLength room ok = encode-passes a b mask payloadLength room (none-of (encodeChecks a b mask payloadLength room) done ok)
 
 -- A refused job leaves its buffer.
 pub encode-refused : (a b : ℕ) (mask payload out : List ℕ) (v : Verdict) → v ≡ settle (encodeChecks a b mask (length payload) (length out)) done
@@ -72,17 +72,17 @@ encode-done a b mask payload out last ok c e l =
 -- ---- frame undo
 
 -- Inputs that pass the checks before the word's symbols are looked at.
-pub record RequestAccepted (a b : ℕ) (mask : List ℕ) (sent room : ℕ) : Type 0 where
+pub record RequestAccepted (a b : ℕ) (mask : List ℕ) (wordLength room : ℕ) : Type 0 where
   pub inner : a < 3
   pub outer : b < 3
   pub count : length mask ≡ 32
-  pub long : sent ≡ 32
+  pub long : wordLength ≡ 32
   pub good : badMask mask ≡ false
   pub room-enough : payloadBytes mask ≤ room
 
-request-passes : (a b : ℕ) (mask : List ℕ) (sent room : ℕ) → None (requestChecks a b mask sent room) → RequestAccepted a b mask sent room
+request-passes : (a b : ℕ) (mask : List ℕ) (wordLength room : ℕ) → None (requestChecks a b mask wordLength room) → RequestAccepted a b mask wordLength room
 unfolding requestChecks
-request-passes a b mask sent room n =
+request-passes a b mask wordLength room n =
     let p = pair-lt a b (not-false _ (n .0)) in
     let h = or-eq-false _ _ (n .1 .0) in
     let e = eqb-true (length mask) 32 (not-false _ (h .0)) in
@@ -91,14 +91,14 @@ request-passes a b mask sent room n =
       inner = p .0;
       outer = p .1;
       count = e;
-      long = eqb-true sent 32 (not-false _ (h .1));
+      long = eqb-true wordLength 32 (not-false _ (h .1));
       good = g;
       room-enough = rw (bytes-eighth mask e g) (ltb-false room (marked mask / 8) (n .1 .1 .1 .0));
     }
 
-pub request-accepted : (a b : ℕ) (mask : List ℕ) (sent room : ℕ) → isAccepted (settle (requestChecks a b mask sent room) done) ≡ true
-    → RequestAccepted a b mask sent room
-request-accepted a b mask sent room ok = request-passes a b mask sent room (none-of (requestChecks a b mask sent room) done ok)
+pub request-accepted : (a b : ℕ) (mask : List ℕ) (wordLength room : ℕ) → isAccepted (settle (requestChecks a b mask wordLength room) done) ≡ true
+    → RequestAccepted a b mask wordLength room
+request-accepted a b mask wordLength room ok = request-passes a b mask wordLength room (none-of (requestChecks a b mask wordLength room) done ok)
 
 module _ (a b : ℕ) (mask word out : List ℕ) where
   request : List Check

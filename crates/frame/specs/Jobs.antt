@@ -16,11 +16,11 @@ use Rattle.frame.specs.Frames.{frameCode}
 -- The checks of frame encode, in checking order: the pair, the length of the mask, the mask, the length of the payload,
 -- and the room for the word.
 unfoldable pub encodeChecks : ℕ → ℕ → List ℕ → ℕ → ℕ → List Check
-encodeChecks a b mask sent room =
+encodeChecks a b mask payloadLength room =
     condition 1 (not (isPair a b))
     ∷ condition 2 (not (eqb (length mask) 32))
     ∷ condition 3 (badMask mask)
-    ∷ condition 4 (not (eqb sent (marked mask / 8)))
+    ∷ condition 4 (not (eqb payloadLength (marked mask / 8)))
     ∷ condition 5 (ltb room 32)
     ∷ []
 
@@ -44,9 +44,9 @@ frozenOf a b mask word = frozenOne (unpack mask) (frameSymbols a b word)
 
 -- The checks of frame undo, in checking order: the pair, the lengths of mask and word, the mask, the room for the payload,
 unfoldable pub requestChecks : ℕ → ℕ → List ℕ → ℕ → ℕ → List Check
-requestChecks a b mask sent room =
+requestChecks a b mask wordLength room =
     condition 1 (not (isPair a b))
-    ∷ condition 2 (not (eqb (length mask) 32) || not (eqb sent 32))
+    ∷ condition 2 (not (eqb (length mask) 32) || not (eqb wordLength 32))
     ∷ condition 3 (badMask mask)
     ∷ condition 5 (ltb room (marked mask / 8))
     ∷ []

@@ -13,8 +13,8 @@ ghost use Rattle.frame.specs.Jobs.{encodeChecks, frameEncode, frameSymbo
 use answer::Answer;
 
 // The checks of frame encode, in checking order.
-fn encode_check(inner: u8, outer: u8, mask: &[u8], sent: usize, room: usize) -> Answer
-    ensures { λ r. ⌜ verdict r ≡ settle (encodeChecks inner outer (now (mask .entry)) sent room) done ⌝ }
+fn encode_check(inner: u8, outer: u8, mask: &[u8], payload_length: usize, room: usize) -> Answer
+    ensures { λ r. ⌜ verdict r ≡ settle (encodeChecks inner outer (now (mask .entry)) «payload_length» room) done ⌝ }
 {
     if !kernel::is_pair(inner, outer) {
         return Answer::NoKernel;
@@ -26,7 +26,7 @@ fn encode_check(inner: u8, outer: u8, mask: &[u8], sent: usize, room: usize) -> 
     if bytes == 0 {
         return Answer::BadMask;
     }
-    if sent != bytes {
+    if payload_length != bytes {
         return Answer::WrongPayload;
     }
     if room < 32 {
@@ -66,11 +66,11 @@ fn request_check(
     outer: u8,
     mask: &[u8],
     bytes: usize,
-    sent: usize,
+    word_length: usize,
     room: usize,
 ) -> Answer
     requires { ⌜ bytes ≡ payloadBytes (now mask) ⌝ }
-    ensures { λ r. ⌜ verdict r ≡ settle (requestChecks inner outer (now (mask .entry)) sent room) done ⌝ }
+    ensures { λ r. ⌜ verdict r ≡ settle (requestChecks inner outer (now (mask .entry)) «word_length» room) done ⌝ }
 {
     if !kernel::is_pair(inner, outer) {
         return Answer::NoKernel;
@@ -78,7 +78,7 @@ fn request_check(
     if mask.len() != 32 {
         return Answer::WrongLength;
     }
-    if sent != 32 {
+    if word_length != 32 {
         return Answer::WrongLength;
     }
     if bytes == 0 {
