@@ -133,10 +133,6 @@ pub score-cong : (C : Code) {m m′ : Costs} → ((i : ℕ) → i < C .places �
 unfolding score
 score-cong C h p = ap₂ (λ x y. negℤ (pos x) -ℤ negℤ (pos y)) (least-cong C h (p ++ (false ∷ []))) (least-cong C h (p ++ (true ∷ [])))
 
--- A symbol by sources and a score that are known otherwise.
-pub own-is : (own f g f′ g′ : Bool) (d d′ : ℤ) → f ≡ f′ → g ≡ g′ → d ≡ d′ → own ≡ symbolBy f g d → own ≡ symbolBy f′ g′ d′
-own-is own f g f′ g′ d d′ ef eg ed e = e ∙ rw (ef, eg, ed) refl
-
 -- A score is no larger than what it pays at most.
 pub size-le : (y : ℤ) (n : ℕ) → ((b : Bool) → pay y b ≤ n) → natAbs y ≤ n
 size-le (pos y) n h = h true

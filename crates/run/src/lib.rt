@@ -5,6 +5,7 @@ ghost use Prim.Native.Nat.{_+_, _≤_, _<_};
 ghost use lib.IntN.{natAbs};
 ghost use lib.ListN.{length, getD};
 ghost use lib.Seq.{paste};
+ghost use Rattle.base.specs.Bit;
 ghost use Rattle.bits.specs.Packed.{bits};
 ghost use Rattle.polar.specs.Code.{pay};
 ghost use Rattle.folds.specs.Range.{firstOutside};
@@ -31,11 +32,16 @@ fn paid(score: i32, symbol: bool) -> u32
     }
 }
 
-// A symbol by its source: the sign of the score where it is free, else the one that is given.
-fn symbol_of(free: bool, given: bool, score: i32) -> bool
-    ensures { λ r. ⌜ r ≡ symbolBy free given score ⌝ }
+// Symbol i by its source: the sign of the score where it is free, else the one that is given.
+fn symbol_of(free: u16, given: u16, i: usize, score: i32) -> bool
+    requires { ⌜ i < 16 ⌝ }
+    ensures { λ r. ⌜ r ≡ symbolBy (Bit.bit (bits 16 free) i) (Bit.bit (bits 16 given) i) score ⌝ }
 {
-    if free { score < 0 } else { given }
+    if bits::word_bit(free as u32, i) {
+        score < 0
+    } else {
+        bits::word_bit(given as u32, i)
+    }
 }
 
 // The symbols, scores and penalties of a run.
@@ -73,11 +79,7 @@ pub fn kernel_run(
         let shape = shapes[s];
         let next = step::step(kernel, s, shape, &tables[s], &costs, symbols, rows, own);
         let score = step::difference(&next, step::path_count(shape, s));
-        own = symbol_of(
-            bits::word_bit(free as u32, s),
-            bits::word_bit(given as u32, s),
-            score,
-        );
+        own = symbol_of(free, given, s, score);
         penalty += paid(score, own);
         scores[s] = score as i16;
         penalties[s] = penalty as u16;

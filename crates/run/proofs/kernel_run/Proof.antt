@@ -18,7 +18,7 @@ use Rattle.kernel.proofs.Undoing.{kernel-code-onto}
 use Rattle.windows.proofs.Following.{range, difference-asks, difference-is, score-fits}
 use Rattle.run.specs.Run.{symbolBy}
 use Rattle.run.proofs.Narrow.{whole, narrow}
-use Rattle.run.proofs.Phases.{AfterPhases, no-phase, phase-turn, next-bound, own-is, size-le, run-of}
+use Rattle.run.proofs.Phases.{AfterPhases, no-phase, phase-turn, next-bound, size-le, run-of}
 use borrow.Author.Needs.{needs}
 use Rattle.run.proofs.kernel_run.Statement.{statement}
 use Rattle.run.proofs.kernel_run.Tie as tie
@@ -100,43 +100,40 @@ difference-requires c κs =
     difference-asks (r .args .kernel) (r .pre .0 .0) (c .before .before .before .before .before .before .before .before .cost-rows .result) (most (c .before .before .before .before .before .before .before .before)) (l .symbols) _ (c .before .before .before .before .before .before .before .before .before .pre .1 .0 .0) (l .s) (search needs)
     (c .before .before .step .result) (c .before .before .step .ensures) (c .path-count .result) (c .path-count .ensures)
 
-word-bit-requires : tie.Need-word-bit-requires Inv-loop μ-loop
-word-bit-requires c κs = search needs
-
-word-bit-requires-2 : tie.Need-word-bit-requires-2 Inv-loop μ-loop
-word-bit-requires-2 c κs = search needs
-
 symbol-of-requires : tie.Need-symbol-of-requires Inv-loop μ-loop
 symbol-of-requires c κs = search needs
 
 paid-requires : tie.Need-paid-requires Inv-loop μ-loop
 paid-requires c κs =
-    let e = c .before .before .before in
+    let e = c .before in
     rw (toZ-ofZ (record { sfits = e .difference .ok }))
-    (size-le (e .difference .result) 32752 (λ d. rw (found e) (score-bound (kernelCode _) _ 2047 (most (c .before .before .before .before .before .before .before .before .before .before .before .before)) _ d)))
+    (size-le (e .difference .result) 32752 (λ d. rw (found e) (score-bound (kernelCode _) _ 2047 (most (c .before .before .before .before .before .before .before .before .before .before)) _ d)))
 
 -- The symbol of the phase, by its source.
-owned : (c : tie.After-symbol-of Inv-loop μ-loop) → (let l = c .before .before .before .before .before .before .before .before .before .before .before .loop in
-    let a = c .before .before .before .before .before .before .before .before .before .before .before .before .before .args in
-    c .symbol-of .result ≡ symbolBy (bit (bits 16 (a .free)) (l .s)) (bit (bits 16 (a .given)) (l .s)) (c .before .before .before .difference .result))
+owned : (c : tie.After-symbol-of Inv-loop μ-loop) → (let l = c .before .before .before .before .before .before .before .before .before .loop in
+    let a = c .before .before .before .before .before .before .before .before .before .before .before .args in
+    c .symbol-of .result ≡ symbolBy (bit (bits 16 (a .free)) (l .s)) (bit (bits 16 (a .given)) (l .s)) (c .before .difference .result))
 owned c =
-    own-is (c .symbol-of .result) _ _ _ _ _ (c .before .before .before .difference .result) (c .before .before .word-bit .ensures) (c .before .word-bit2 .ensures) (whole (c .before .before .before .difference .result) (record { sfits = c .before .before .before .difference .ok })) (c .symbol-of .ensures)
+    let l = c .before .before .before .before .before .before .before .before .before .loop in
+    let a = c .before .before .before .before .before .before .before .before .before .before .before .args in
+    c .symbol-of .ensures
+    ∙ ap (symbolBy (bit (bits 16 (a .free)) (l .s)) (bit (bits 16 (a .given)) (l .s))) (whole (c .before .difference .result) (record { sfits = c .before .difference .ok }))
 
 -- What it pays.
-pays : (c : tie.After-paid Inv-loop μ-loop) → c .paid .result ≡ pay (c .before .before .before .before .difference .result) (c .before .symbol-of .result)
-pays c = c .paid .ensures ∙ ap (λ y. pay y (c .before .symbol-of .result)) (whole (c .before .before .before .before .difference .result) (record { sfits = c .before .before .before .before .difference .ok }))
+pays : (c : tie.After-paid Inv-loop μ-loop) → c .paid .result ≡ pay (c .before .before .difference .result) (c .before .symbol-of .result)
+pays c = c .paid .ensures ∙ ap (λ y. pay y (c .before .symbol-of .result)) (whole (c .before .before .difference .result) (record { sfits = c .before .before .difference .ok }))
 
 -- The penalty stays small.
-small : (c : tie.After-paid Inv-loop μ-loop) → (let l = c .before .before .before .before .before .before .before .before .before .before .before .before .loop in l .penalty + c .paid .result ≤ 65264)
+small : (c : tie.After-paid Inv-loop μ-loop) → (let l = c .before .before .before .before .before .before .before .before .before .before .loop in l .penalty + c .paid .result ≤ 65264)
 small c =
-    let l = c .before .before .before .before .before .before .before .before .before .before .before .before .loop in
-    let r = c .before .before .before .before .before .before .before .before .before .before .before .before .before .before in
+    let l = c .before .before .before .before .before .before .before .before .before .before .loop in
+    let r = c .before .before .before .before .before .before .before .before .before .before .before .before in
     omega (
       arith,
       pays c,
       r .pre .0 .1,
-      next-bound (r .args .kernel) _ _ _ (r .args .start) (l .s) _ _ _ _ _ _ (l .inv) (search needs) _ (found (c .before .before .before .before)) _ (owned (c .before))
-          (c .before .before .before .before .before .before .before .step .result) (c .before .before .before .before .before .before .before .step .ensures) _ refl (most (c .before .before .before .before .before .before .before .before .before .before .before .before .before)),
+      next-bound (r .args .kernel) _ _ _ (r .args .start) (l .s) _ _ _ _ _ _ (l .inv) (search needs) _ (found (c .before .before)) _ (owned (c .before))
+          (c .before .before .before .before .before .step .result) (c .before .before .before .before .before .step .ensures) _ refl (most (c .before .before .before .before .before .before .before .before .before .before .before)),
     )
 
 add-penalty : tie.Need-add-penalty Inv-loop μ-loop
@@ -144,11 +141,11 @@ add-penalty c = omega (arith, small c)
 
 cast-scores : tie.Need-cast-scores Inv-loop μ-loop
 cast-scores c =
-    let e = c .before .before .before .before in
-    let l = c .before .before .before .before .before .before .before .before .before .before .before .before .loop in
-    let r = c .before .before .before .before .before .before .before .before .before .before .before .before .before .before in
+    let e = c .before .before in
+    let l = c .before .before .before .before .before .before .before .before .before .before .loop in
+    let r = c .before .before .before .before .before .before .before .before .before .before .before .before in
     rw (toZ-ofZ (record { sfits = e .difference .ok }))
-    (score-fits (r .args .kernel) (r .pre .0 .0) (c .before .before .before .before .before .before .before .before .before .before .before .before .before .cost-rows .result) (most (c .before .before .before .before .before .before .before .before .before .before .before .before .before)) (l .symbols) _ (c .before .before .before .before .before .before .before .before .before .before .before .before .before .before .pre .1 .0 .0) (l .s) (search needs) _ (found e))
+    (score-fits (r .args .kernel) (r .pre .0 .0) (c .before .before .before .before .before .before .before .before .before .before .before .cost-rows .result) (most (c .before .before .before .before .before .before .before .before .before .before .before)) (l .symbols) _ (c .before .before .before .before .before .before .before .before .before .before .before .before .pre .1 .0 .0) (l .s) (search needs) _ (found e))
 
 mul-scores : tie.Need-mul-scores Inv-loop μ-loop
 mul-scores c = search needs
@@ -176,13 +173,13 @@ loop-less c = search needs
 
 loop-again : tie.Need-loop-again Inv-loop μ-loop
 loop-again c =
-    let l = c .before .before .before .before .before .before .before .before .before .before .before .before .before .loop in
-    let r = c .before .before .before .before .before .before .before .before .before .before .before .before .before .before .before in
-    let e = c .before .before .before .before .before in
+    let l = c .before .before .before .before .before .before .before .before .before .before .before .loop in
+    let r = c .before .before .before .before .before .before .before .before .before .before .before .before .before in
+    let e = c .before .before .before in
     let d = e .difference .result in
-    let f = score-fits (r .args .kernel) (r .pre .0 .0) (c .before .before .before .before .before .before .before .before .before .before .before .before .before .before .cost-rows .result) (most (c .before .before .before .before .before .before .before .before .before .before .before .before .before .before)) (l .symbols) _ (c .before .before .before .before .before .before .before .before .before .before .before .before .before .before .before .pre .1 .0 .0) (l .s) (search needs) _ (found e) in
+    let f = score-fits (r .args .kernel) (r .pre .0 .0) (c .before .before .before .before .before .before .before .before .before .before .before .before .cost-rows .result) (most (c .before .before .before .before .before .before .before .before .before .before .before .before)) (l .symbols) _ (c .before .before .before .before .before .before .before .before .before .before .before .before .before .pre .1 .0 .0) (l .s) (search needs) _ (found e) in
     phase-turn (r .args .kernel) _ _ _ (r .args .start) (l .s) _ _ _ _ _ _ (l .inv) (search needs) d (found e) _ (owned (c .before .before))
-    (c .before .before .before .before .before .before .before .before .step .result) (c .before .before .before .before .before .before .before .before .step .ensures) _ (c .with-bit .ensures)
+    (c .before .before .before .before .before .before .step .result) (c .before .before .before .before .before .before .step .ensures) _ (c .with-bit .ensures)
     _ (narrow d (record { sfits = e .difference .ok }) f) _ (pays (c .before))
 
 returns : tie.Need-returns Inv-loop μ-loop
@@ -207,8 +204,6 @@ kernel-run-spec =
     step-requires
     path-count-requires
     difference-requires
-    word-bit-requires
-    word-bit-requires-2
     symbol-of-requires
     paid-requires
     add-penalty
