@@ -85,10 +85,10 @@ static void kernel_follow(void)
     }
     outcome(nospridda_kernel_follow(1, values, SIXTEEN, 0, scores, SIXTEEN), NOSPRIDDA_ACCEPTED, 0,
             "kernel follow, kernel 1");
-    expect(memcmp(scores, first, sizeof scores) == 0, "the profile of kernel 1");
+    expect(memcmp(scores, first, sizeof scores) == 0, "the partial distances of kernel 1");
     outcome(nospridda_kernel_follow(2, values, SIXTEEN, 0, scores, SIXTEEN), NOSPRIDDA_ACCEPTED, 0,
             "kernel follow, kernel 2");
-    expect(memcmp(scores, second, sizeof scores) == 0, "the profile of kernel 2");
+    expect(memcmp(scores, second, sizeof scores) == 0, "the partial distances of kernel 2");
 
     /* The word of symbol 0 has a single 1, and so has that of symbols 0 and 1. */
     outcome(nospridda_kernel_follow(2, values, SIXTEEN, 0x8000, scores, SIXTEEN), NOSPRIDDA_ACCEPTED, 0,
@@ -199,7 +199,7 @@ static void frame_follow(void)
         expect(penalties[i] == 0, "the penalties of frame follow");
     }
 
-    /* Number 3 of the profiles is 2 for kernel 1 and 4 for kernel 2. The word of symbol 255 is all ones. */
+    /* Partial distance 3 is 2 for kernel 1 and 4 for kernel 2. The word of symbol 255 is all ones. */
     symbols[31] = 1;
     outcome(nospridda_frame_follow(1, 2, values, SYMBOLS, symbols, sizeof symbols, scores, SYMBOLS, penalties, SYMBOLS),
             NOSPRIDDA_ACCEPTED, 0, "frame follow, kernels 1 and 2");

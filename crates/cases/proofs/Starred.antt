@@ -36,7 +36,7 @@ use Rattle.quantiser.proofs.Accepted as Quantised
 use Rattle.rounding.specs.Rounding.{rounded}
 use Rattle.follow.proofs.Accepted.{accepted, accepted-job}
 use Rattle.cases.proofs.Computed.{pathBy, leastBy, scoresBy, scores-by}
-use Rattle.cases.specs.Cases.{Case, encoding, following, ending, valueRefused, masking, sizeRefused, quantising, Holds, starred, AllHold}
+use Rattle.cases.specs.Cases.{Case, encoding, following, followingLast, valueRefused, masking, sizeRefused, quantising, Holds, starred, AllHold}
 
 -- Whether two scores are the same.
 unfoldable sameScore : ℤ → ℤ → Bool
@@ -87,7 +87,7 @@ unfoldable test : Case → Bool
 test (encoding k s w) = isKernel k && eqb (rowSum (getD table k []) (number (unit 16 s))) w
 test (following k value scores) =
     isAccepted (settle (kernelFollowChecks k (replicate 16 value) 16) done) && sameList sameScore (scoresBy k (channel (replicate 16 value)) (bits 16 0)) scores
-test (ending k value score) =
+test (followingLast k value score) =
     isAccepted (settle (kernelFollowChecks k (replicate 16 value) 16) done) && sameScore (getD (scoresBy k (channel (replicate 16 value)) (bits 16 0)) 15 (pos 0)) score
 test (valueRefused k i value n) = isRefusal n i (settle (kernelFollowChecks k (set (replicate 16 (pos 0)) i value) 16) done)
 test (masking p phases) = isAccepted (settle (informationChecks p 32) done) && sameList eqb (markedPhases (informationBits p)) phases
@@ -133,7 +133,7 @@ shown (encoding k s w) t =
 shown (following k value scores) t =
     let h = (and-eq-true-iff (isAccepted (settle (kernelFollowChecks k (replicate 16 value) 16) done)) _) .0 t in
     followed k value (h .0) ∙ ap (λ (l : List ℤ). (done, l)) (list-eq sameScore score-eq _ scores (h .1))
-shown (ending k value score) t =
+shown (followingLast k value score) t =
     let h = (and-eq-true-iff (isAccepted (settle (kernelFollowChecks k (replicate 16 value) 16) done)) _) .0 t in
     let job = followed k value (h .0) in
     (ap (λ r. r .0) job, ap (λ r. getD (r .1) 15 (pos 0)) job ∙ score-eq _ score (h .1))

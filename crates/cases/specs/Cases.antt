@@ -21,10 +21,10 @@ use Rattle.quantiser.specs.Jobs.{valuesFromMarks}
 pub data Case : Type 0 where
   -- Kernel k, only symbol s set: the word w.
   encoding : (k s w : ℕ) → Case
-  -- Kernel k, all sixteen values the same, symbols 0: the sixteen scores,
+  -- Kernel k, all sixteen values the same, symbols 0: the sixteen scores.
   following : (k : ℕ) (value : ℤ) (scores : List ℤ) → Case
-  -- or only the last of them.
-  ending : (k : ℕ) (value score : ℤ) → Case
+  -- Kernel k, all sixteen values the same, symbols 0: the last score.
+  followingLast : (k : ℕ) (value score : ℤ) → Case
   -- Kernel k, one value at place i, the others 0: refused by condition n at that place.
   valueRefused : (k i : ℕ) (value : ℤ) (n : ℕ) → Case
   -- Information mask for p bytes of payload: the phases that it marks.
@@ -38,7 +38,7 @@ pub data Case : Type 0 where
 abbrev pub Holds : Case → Type 0
 Holds (encoding k s w) = kernelEncode k (number (unit 16 s)) ≡ word w
 Holds (following k value scores) = kernelFollow k (replicate 16 value) 0 (replicate 16 (pos 0)) ≡ (done, scores)
-Holds (ending k value score) =
+Holds (followingLast k value score) =
     let r = kernelFollow k (replicate 16 value) 0 (replicate 16 (pos 0)) in
     (r .0 ≡ done) × (getD (r .1) 15 (pos 0) ≡ score)
 Holds (valueRefused k i value n) =
@@ -70,9 +70,9 @@ starred =
     ∷ following 0 (pos 0) (replicate 16 (pos 0))
     ∷ following 1 (pos 0) (replicate 16 (pos 0))
     ∷ following 2 (pos 0) (replicate 16 (pos 0))
-    ∷ ending 0 (pos 2047) (pos 32752)
-    ∷ ending 1 (pos 2047) (pos 32752)
-    ∷ ending 2 (pos 2047) (pos 32752)
+    ∷ followingLast 0 (pos 2047) (pos 32752)
+    ∷ followingLast 1 (pos 2047) (pos 32752)
+    ∷ followingLast 2 (pos 2047) (pos 32752)
     ∷ masking 1 (191 ∷ 223 ∷ 239 ∷ 250 ∷ 251 ∷ 253 ∷ 254 ∷ 255 ∷ [])
     ∷ sizeRefused 0 8
     ∷ sizeRefused 33 8

@@ -37,8 +37,8 @@ frame-exact a b values u e v ok scores₀ penalties₀ =
     let n : length (scores C m u) ≡ 256 = length-scores C m u ∙ e in
     let n′ : length (penalties C m u) ≡ 256 = length-penalties C m u ∙ e in
     record {
-      score = λ i l. rw (after-at v scores₀ (scores C m u) 256 n ok i (pos 0) l) (score-exact C m u i e l (pos 0));
-      penalty = λ i l. rw (after-at v penalties₀ (penalties C m u) 256 n′ ok i 0 l) (penalty-exact C m u i e l 0);
+      score-exact = λ i l. rw (after-at v scores₀ (scores C m u) 256 n ok i (pos 0) l) (score-exact C m u i e l (pos 0));
+      penalty-exact = λ i l. rw (after-at v penalties₀ (penalties C m u) 256 n′ ok i 0 l) (penalty-exact C m u i e l 0);
       count = e;
       score-room = after-room v scores₀ (scores C m u) 256 n ok;
       score-rest = after-rest v scores₀ (scores C m u) 256 n ok;
@@ -90,7 +90,7 @@ frame-decode-exact a b values mask scores₀ penalties₀ payload₀ ok =
       frame-exact a b values u lu _ ok scores₀ penalties₀,
       record {
         sign = λ i l e. rw (after-at _ scores₀ (scores C m u) 256 ls ok i (pos 0) l) (marked-sign C m (bit marks) i l (pos 0) e);
-        held = λ i l e.
+        payload-bit = λ i l e.
             payload-at (gather marks u) (ones marks / 8) lg _ ok payload₀ (ones (take i marks)) (omega (arith, ones-before marks i e, length-gather marks u))
             ∙ gather-at marks u i e;
         frozen = λ i l e. unmarked-zero C m (bit marks) i l e;

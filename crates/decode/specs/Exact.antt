@@ -16,8 +16,8 @@ use Rattle.frame.specs.Frames.{frameCode}
 -- At every phase of the 256 symbols u, the score and the penalty written there are exact, over all words of the frame.
 -- There is room for 256 of each, and what lies past them stays: the buffers held scores₀ and penalties₀ before.
 pub record FrameExact (a b : ℕ) (values : List ℤ) (u : List Bool) (scores₀ scores : List ℤ) (penalties₀ penalties : List ℕ) : Type 0 where
-  pub score : (i : ℕ) → i < 256 → ExactScore (frameCode a b) (channel values) u i (getD scores i (pos 0))
-  pub penalty : (i : ℕ) → i < 256 → ExactPenalty (frameCode a b) (channel values) u i (getD penalties i 0)
+  pub score-exact : (i : ℕ) → i < 256 → ExactScore (frameCode a b) (channel values) u i (getD scores i (pos 0))
+  pub penalty-exact : (i : ℕ) → i < 256 → ExactPenalty (frameCode a b) (channel values) u i (getD penalties i 0)
   pub count : length u ≡ 256
   pub score-room : 256 ≤ length scores
   pub score-rest : drop 256 scores ≡ drop 256 scores₀
@@ -30,7 +30,7 @@ pub record FrameExact (a b : ℕ) (values : List ℤ) (u : List Bool) (scores₀
 -- stays: the buffer held payload₀ before.
 pub record BySigns (mask : List ℕ) (u : List Bool) (scores : List ℤ) (payload₀ payload : List ℕ) : Type 0 where
   pub sign : (i : ℕ) → i < 256 → bit (unpack mask) i ≡ true → IsSign (getD scores i (pos 0)) (bit u i)
-  pub held : (i : ℕ) → i < 256 → bit (unpack mask) i ≡ true → bit (unpack payload) (ones (take i (unpack mask))) ≡ bit u i
+  pub payload-bit : (i : ℕ) → i < 256 → bit (unpack mask) i ≡ true → bit (unpack payload) (ones (take i (unpack mask))) ≡ bit u i
   pub frozen : (i : ℕ) → i < 256 → bit (unpack mask) i ≡ false → bit u i ≡ false
   pub phase : (j : ℕ) → j < marked mask → (i : ℕ) × (i < 256) × (bit (unpack mask) i ≡ true) × (ones (take i (unpack mask)) ≡ j)
   pub payload-room : marked mask ≤ 8 * length payload

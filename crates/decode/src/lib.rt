@@ -8,7 +8,7 @@ ghost use Rattle.decode.specs.Jobs.{frameFollowChecks, frameFollow, fram
 use answer::Answer;
 
 // The lowest index whose value lies outside -127 to 127, or 256, block by block.
-fn first_outside(values: &[i8]) -> usize
+fn frame_outside(values: &[i8]) -> usize
     requires { ⌜ length (now values) ≡ 256 ⌝ }
     ensures { λ r. ⌜ r ≡ firstOutside 127 (now (values .entry)) ⌝ }
 {
@@ -50,7 +50,7 @@ fn follow_check(
     if penalty_room < 256 {
         return Answer::ShortOutput;
     }
-    let place = first_outside(values);
+    let place = frame_outside(values);
     if place < 256 {
         return Answer::ValueOutOfRange(place);
     }
@@ -126,7 +126,7 @@ fn decode_check(
     if payload_room < bytes {
         return Answer::ShortOutput;
     }
-    let place = first_outside(values);
+    let place = frame_outside(values);
     if place < 256 {
         return Answer::ValueOutOfRange(place);
     }

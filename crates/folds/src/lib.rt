@@ -79,7 +79,7 @@ fn negative_difference(a: u32, b: u32) -> i32
 }
 
 // What a place pays for bit 0 and for bit 1.
-pub struct Pair {
+pub struct PlaceCosts {
     pub zero: u32,
     pub one: u32,
 }
@@ -92,40 +92,40 @@ fn pick(c: bool, x: u32, y: u32) -> u32
 }
 
 // Two places folded onto one, the first one's bit being known.
-fn known(bit: bool, p: Pair, q: Pair) -> Pair
+fn known(bit: bool, p: PlaceCosts, q: PlaceCosts) -> PlaceCosts
     requires { ⌜ (p .zero ≤ 16777216) × (p .one ≤ 16777216) × (q .zero ≤ 16777216) × (q .one ≤ 16777216) ⌝ }
     ensures { λ r. ⌜ (r .zero ≡ select (p .zero) (p .one) bit + q .zero) × (r .one ≡ select (p .one) (p .zero) bit + q .one) ⌝ }
 {
-    Pair {
+    PlaceCosts {
         zero: pick(bit, p.zero, p.one) + q.zero,
         one: pick(bit, p.one, p.zero) + q.one,
     }
 }
 
 // Two places folded onto one, the second one's bit being free, for many places side by side.
-fn free(p: Pair, q: Pair) -> Pair
+fn free(p: PlaceCosts, q: PlaceCosts) -> PlaceCosts
     requires { ⌜ (p .zero ≤ 16777216) × (p .one ≤ 16777216) × (q .zero ≤ 16777216) × (q .one ≤ 16777216) ⌝ }
     ensures { λ r. ⌜ (r .zero ≡ min (p .zero + q .zero) (p .one + q .one)) × (r .one ≡ min (p .one + q .zero) (p .zero + q .one)) ⌝ }
 {
-    Pair {
+    PlaceCosts {
         zero: lower(p.zero + q.zero, p.one + q.one),
         one: lower(p.one + q.zero, p.zero + q.one),
     }
 }
 
 // The same for one place alone.
-fn free_one(p: Pair, q: Pair) -> Pair
+fn free_one(p: PlaceCosts, q: PlaceCosts) -> PlaceCosts
     requires { ⌜ (p .zero ≤ 16777216) × (p .one ≤ 16777216) × (q .zero ≤ 16777216) × (q .one ≤ 16777216) ⌝ }
     ensures { λ r. ⌜ (r .zero ≡ min (p .zero + q .zero) (p .one + q .one)) × (r .one ≡ min (p .one + q .zero) (p .zero + q .one)) ⌝ }
 {
-    Pair {
+    PlaceCosts {
         zero: lesser(p.zero + q.zero, p.one + q.one),
         one: lesser(p.one + q.zero, p.zero + q.one),
     }
 }
 
 // Two places folded onto one, where the first one's bit may be known.
-pub fn fold_pair(first_known: bool, bit: bool, p: Pair, q: Pair) -> Pair
+pub fn fold_pair(first_known: bool, bit: bool, p: PlaceCosts, q: PlaceCosts) -> PlaceCosts
     requires { ⌜ (p .zero ≤ 16777216) × (p .one ≤ 16777216) × (q .zero ≤ 16777216) × (q .one ≤ 16777216) ⌝ }
     ensures { λ r. ⌜ («first_known» ≡ true → (r .zero ≡ select (p .zero) (p .one) bit + q .zero) × (r .one ≡ select (p .one) (p .zero) bit + q .one)) × («first_known» ≡ false → (r .zero ≡ min (p .zero + q .zero) (p .one + q .one)) × (r .one ≡ min (p .one + q .zero) (p .zero + q .one))) ⌝ }
 {
@@ -137,17 +137,17 @@ pub fn fold_pair(first_known: bool, bit: bool, p: Pair, q: Pair) -> Pair
 }
 
 // A place of two rows.
-fn place(rows: &[[u32; 16]; 2], i: usize) -> Pair
+fn place(rows: &[[u32; 16]; 2], i: usize) -> PlaceCosts
     requires { ⌜ i < 16 ⌝ }
     ensures { λ r. ⌜ Pays (costsOf (now (rows .entry))) i (r .zero) (r .one) ⌝ }
 {
     let zero = rows[0][i];
     let one = rows[1][i];
-    Pair { zero, one }
+    PlaceCosts { zero, one }
 }
 
 // Place i of the second half, where the bits of the first half's word stand in word.
-fn known_at(rows: &[[u32; 16]; 2], word: u32, i: usize) -> Pair
+fn known_at(rows: &[[u32; 16]; 2], word: u32, i: usize) -> PlaceCosts
     requires { ⌜ (i < 8) × Within 65536 (now rows) ⌝ }
     ensures { λ r. ⌜ Pays (knownFold 8 (Bit.bit (bits 16 word)) (costsOf (now (rows .entry)))) i (r .zero) (r .one) ⌝ }
 {
@@ -155,7 +155,7 @@ fn known_at(rows: &[[u32; 16]; 2], word: u32, i: usize) -> Pair
 }
 
 // Place i of the first half, the second half being free.
-fn free_at(rows: &[[u32; 16]; 2], i: usize) -> Pair
+fn free_at(rows: &[[u32; 16]; 2], i: usize) -> PlaceCosts
     requires { ⌜ (i < 8) × Within 65536 (now rows) ⌝ }
     ensures { λ r. ⌜ Pays (freeFold 8 (costsOf (now (rows .entry)))) i (r .zero) (r .one) ⌝ }
 {

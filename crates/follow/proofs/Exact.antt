@@ -26,7 +26,7 @@ kernel-follow-exact k values symbols out a =
     let u = bits 16 symbols in
     let n : length (scores C m u) ≡ 16 = length-scores C m u ∙ length-bits 16 symbols in
     record {
-      score = λ i l. rw (after-at _ out (scores C m u) 16 n a i (pos 0) l) (score-exact C m u i (length-bits 16 symbols) l (pos 0));
+      score-exact = λ i l. rw (after-at _ out (scores C m u) 16 n a i (pos 0) l) (score-exact C m u i (length-bits 16 symbols) l (pos 0));
       room = after-room _ out (scores C m u) 16 n a;
       rest = after-rest _ out (scores C m u) 16 n a;
     }

@@ -163,7 +163,7 @@ fn say_scores(scores: [i16; 20]) {
 }
 
 // All values 1 and symbols 0, into a buffer of twenty: the scores, and whether what lies past them stays.
-fn profile(label: &[u8], kernel: u8) {
+fn distances_of(label: &[u8], kernel: u8) {
     let values = [1i16; 16];
     let before = BEFORE;
     let mut scores = BEFORE;
@@ -201,10 +201,10 @@ fn ends_of_range() {
     last_score(b"kernel 2, all -2047", 2, [-2047i16; 16]);
 }
 
-fn profiles() {
-    profile(b"kernel 0, all 1", 0);
-    profile(b"kernel 1, all 1", 1);
-    profile(b"kernel 2, all 1", 2);
+fn distances() {
+    distances_of(b"kernel 0, all 1", 0);
+    distances_of(b"kernel 1, all 1", 1);
+    distances_of(b"kernel 2, all 1", 2);
 }
 
 fn refusals() {
@@ -259,7 +259,7 @@ fn traps() {
 
 fn main() {
     ends_of_range();
-    profiles();
+    distances();
     refusals();
     two_conditions();
     traps();

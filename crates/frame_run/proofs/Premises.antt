@@ -29,7 +29,7 @@ use Rattle.windows.specs.Tables.{shapeTable}
 use Rattle.windows.specs.Paths.{Held, IsDifference}
 use Rattle.windows.proofs.Steps.{held-bound}
 use Rattle.windows.proofs.Following.{difference-asks, difference-is, paths-is}
-use Rattle.layers.specs.Layers.{costsAt, before}
+use Rattle.layers.specs.Layers.{costsAt, columnBefore}
 use Rattle.run.proofs.Phases.{size-le}
 use Rattle.frame.specs.Frames.{frameCode}
 
@@ -56,18 +56,18 @@ penalty-small a b ys e u = least-bound (frameCode a b) (channel ys) 127 (channel
 
 module _ (k : ℕ) (lk : k < 3) (costs : List (List (List ℕ))) (most : (j : ℕ) → j < 16 → Within 127 (getD costs j [])) (columns : List ℕ)
     (shapes : List (List ℕ)) (es : shapes ≡ getD shapeTable k []) (r : ℕ) (lr : r < 16)
-    (rows3 : List (List (List ℤ))) (held : (j : ℕ) → j < 16 → Held k (costsAt costs j) (before r columns j) (getD rows3 j []))
+    (rows3 : List (List (List ℤ))) (held : (j : ℕ) → j < 16 → Held k (costsAt costs j) (columnBefore r columns j) (getD rows3 j []))
     (n : ℕ) (en : n ≡ 2 ^ (getD (getD shapes r []) 0 0 - r)) where
   wider : (j : ℕ) → j < 16 → Within 2047 (getD costs j [])
   wider j l i b = le-trans (most j l i b) (omega arith)
 
   -- The scores that the rows hold,
-  pub outer-score : (j : ℕ) → j < 16 → (d : ℤ) → IsDifference (getD rows3 j []) n d → d ≡ score (kernelCode k) (costsAt costs j) (before r columns j)
+  pub outer-score : (j : ℕ) → j < 16 → (d : ℤ) → IsDifference (getD rows3 j []) n d → d ≡ score (kernelCode k) (costsAt costs j) (columnBefore r columns j)
   outer-score j l d h = difference-is k lk (getD costs j []) (wider j l) (getD columns j 0) shapes es r lr (getD rows3 j []) (held j l) n en d h
 
   -- are small,
   pub outer-small : (j : ℕ) → j < 16 → (d : ℤ) → IsDifference (getD rows3 j []) n d → (b : Bool) → pay d b ≤ 2032
-  outer-small j l d h b = rw (outer-score j l d h) (score-bound (kernelCode k) (costsAt costs j) 127 (most j l) (before r columns j) b)
+  outer-small j l d h b = rw (outer-score j l d h) (score-bound (kernelCode k) (costsAt costs j) 127 (most j l) (columnBefore r columns j) b)
 
   -- and so are the entries of the rows.
   pub outer-asks : ((0 < n) × (n ≤ 16)) × ((j : ℕ) → j < 16 → (w : ℕ) (b : Bool) → w < n → natAbs (cell (pos 0) (getD rows3 j []) w b) ≤ 2032)
@@ -75,7 +75,7 @@ module _ (k : ℕ) (lk : k < 3) (costs : List (List (List ℕ))) (most : (j : �
       let z = difference-asks k lk (getD costs 0 []) (wider 0 (omega arith)) (getD columns 0 0) shapes es r lr (getD rows3 0 []) (held 0 (omega arith)) n en in (
         z .0,
         λ j l w b h.
-            held-bound k r lk lr (costsAt costs j) (before r columns j) (length-take-le r (bits 16 (getD columns j 0)) (omega (arith, length-bits 16 (getD columns j 0))))
+            held-bound k r lk lr (costsAt costs j) (columnBefore r columns j) (length-take-le r (bits 16 (getD columns j 0)) (omega (arith, length-bits 16 (getD columns j 0))))
             (getD rows3 j []) (held j l) 127 (most j l) w b (rw (en, paths-is k lk (getD costs j []) (wider j l) (getD columns j 0) shapes es r lr) at h),
       )
 

@@ -27,7 +27,7 @@ use Rattle.grid.specs.Grid.{rowsBits}
 use Rattle.windows.specs.Paths.{Kept, Held}
 use Rattle.frame.specs.Frames.{frameCode}
 use Rattle.run.specs.Run.{withBit, symbolBy, SymbolsBy, KernelRun}
-use Rattle.layers.specs.Layers.{costsAt, before}
+use Rattle.layers.specs.Layers.{costsAt, columnBefore}
 use Rattle.run.proofs.Phases.{with-length, with-same, take-with, with-other}
 use Rattle.frame_run.specs.Run.{front, FrameRun}
 use Rattle.frame_run.proofs.Prefixes.{length-front, front-next, front-all, column-next}
@@ -70,14 +70,14 @@ module _ (a b : ℕ) (ys : List ℤ) (costs : List (List (List ℕ))) (free give
     pub scores-so : newScores ≡ scores (frameCode a b) (channel ys) (front r symbols) ++ drop (r * 16) oldScores
     pub penalties-so : newPenalties ≡ penalties (frameCode a b) (channel ys) (front r symbols) ++ drop (r * 16) oldPenalties
     pub penalty-so : penalty ≡ least (frameCode a b) (channel ys) (front r symbols)
-    pub columns-so : (j : ℕ) → j < 16 → before r columns j ≡ column (code (kernel a)) (rows 16 r (front r symbols)) j
+    pub columns-so : (j : ℕ) → j < 16 → columnBefore r columns j ≡ column (code (kernel a)) (rows 16 r (front r symbols)) j
     pub later : (j : ℕ) → j < 16 → (i : ℕ) → r ≤ i → bit (bits 16 (getD columns j 0)) i ≡ false
-    pub kept-so : 0 < r → (j : ℕ) → j < 16 → Kept b (costsAt costs j) (before r columns j) (rowOf (getD rows3 j []) (bit (bits 16 w) j))
+    pub kept-so : 0 < r → (j : ℕ) → j < 16 → Kept b (costsAt costs j) (columnBefore r columns j) (rowOf (getD rows3 j []) (bit (bits 16 w) j))
 
   module _ (agree : (j t : ℕ) (c : Bool) → j < 16 → t < 16 → costsAt costs j t c ≡ channel ys (16 * j + t) c)
       (r : ℕ) (symbols columns : List ℕ) (rows₀ : List (List (List ℤ))) (w₀ penalty : ℕ) (newScores : List ℤ) (newPenalties : List ℕ)
       (g : AfterRows r symbols columns rows₀ w₀ penalty newScores newPenalties) (lr : r < 16)
-      (found : List ℤ) (is : (j : ℕ) → j < 16 → getD found j (pos 0) ≡ score (kernelCode b) (costsAt costs j) (before r columns j))
+      (found : List ℤ) (is : (j : ℕ) → j < 16 → getD found j (pos 0) ≡ score (kernelCode b) (costsAt costs j) (columnBefore r columns j))
       (fr gi x : ℕ) (sc : List ℤ) (pe : List ℕ)
       (free-is : (s : ℕ) → s < 16 → bit (bits 16 fr) s ≡ free (r * 16 + s)) (given-is : (s : ℕ) → s < 16 → bit (bits 16 gi) s ≡ given (r * 16 + s))
       (row : KernelRun a found fr gi penalty x sc pe) (long : length pe ≡ 16) where
@@ -93,11 +93,11 @@ module _ (a b : ℕ) (ys : List ℤ) (costs : List (List (List ℕ))) (free give
     lp : length p ≡ 16
     lp = length-bits 16 x
 
-    col-long : (j : ℕ) → length (before r columns j) ≡ r
+    col-long : (j : ℕ) → length (columnBefore r columns j) ≡ r
     col-long j = length-take-le r (bits 16 (getD columns j 0)) (omega (arith, length-bits 16 (getD columns j 0)))
 
     soft-is : (j : ℕ) → j < 16 → getD found j (pos 0) ≡ score (code (kernel b)) (block 16 (channel ys) j) (column (code (kernel a)) (rows 16 r u) j)
-    soft-is j l = is j l ∙ outer-is a b ys costs agree r lr (front r symbols) lu j l (before r columns j) (omega (arith, col-long j)) (g .columns-so j l)
+    soft-is j l = is j l ∙ outer-is a b ys costs agree r lr (front r symbols) lu j l (columnBefore r columns j) (omega (arith, col-long j)) (g .columns-so j l)
 
     in-row : (q : List Bool) → length q < 16 → score (frameCode a b) (channel ys) (u ++ q) ≡ score (kernelCode a) (channel found) q
     in-row q lq = row-score a b ys costs agree r lr u lu found soft-is q lq
@@ -141,14 +141,14 @@ module _ (a b : ℕ) (ys : List ℤ) (costs : List (List (List ℕ))) (free give
     -- One row more.
     module _ (w : ℕ) (word-is : (j : ℕ) → j < 16 → bit (bits 16 w) j ≡ (code (kernel a)) .word p j)
         (columns′ : List ℕ) (cols : (j : ℕ) → j < 16 → bits 16 (getD columns′ j 0) ≡ withBit (bits 16 (getD columns j 0)) r (bit (bits 16 w) j))
-        (rows3 : List (List (List ℤ))) (held : (j : ℕ) → j < 16 → Held b (costsAt costs j) (before r columns j) (getD rows3 j [])) where
+        (rows3 : List (List (List ℤ))) (held : (j : ℕ) → j < 16 → Held b (costsAt costs j) (columnBefore r columns j) (getD rows3 j [])) where
       next : front (r + 1) (set symbols r x) ≡ u ++ p
       next = ap (λ n. front n (set symbols r x)) (add-one r) ∙ front-next r symbols x (omega (arith, g .room))
 
       more : (r + 1) * 16 ≡ r * 16 + 16
       more = omega arith
 
-      col-next : (j : ℕ) → j < 16 → before (r + 1) columns′ j ≡ before r columns j ++ (bit (bits 16 w) j ∷ [])
+      col-next : (j : ℕ) → j < 16 → columnBefore (r + 1) columns′ j ≡ columnBefore r columns j ++ (bit (bits 16 w) j ∷ [])
       col-next j l =
           let q = bits 16 (getD columns j 0) in
           let lq = length-bits 16 (getD columns j 0) in

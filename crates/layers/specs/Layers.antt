@@ -12,5 +12,5 @@ abbrev pub costsAt : List (List (List ℕ)) → ℕ → Costs
 costsAt costs j = costsOf (getD costs j [])
 
 -- The first n symbols of outer kernel j.
-abbrev pub before : ℕ → List ℕ → ℕ → List Bool
-before n columns j = take n (bits 16 (getD columns j 0))
+abbrev pub columnBefore : ℕ → List ℕ → ℕ → List Bool
+columnBefore n columns j = take n (bits 16 (getD columns j 0))

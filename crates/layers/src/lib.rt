@@ -7,12 +7,11 @@ ghost use lib.IntN.{pos, natAbs};
 ghost use lib.ListN.{getD};
 ghost use Rattle.base.specs.Bit;
 ghost use Rattle.bits.specs.Packed.{bits};
-ghost use Rattle.folds.specs.Rows.{cell, Within};
+ghost use Rattle.folds.specs.Rows.{rowOf, cell, Within};
 ghost use Rattle.windows.specs.Tables.{shapeTable, pathRows};
-ghost use Rattle.folds.specs.Rows.{rowOf};
 ghost use Rattle.windows.specs.Paths.{Kept, Held, IsDifference};
 ghost use Rattle.run.specs.Run.{withBit};
-ghost use Rattle.layers.specs.Layers.{costsAt, before};
+ghost use Rattle.layers.specs.Layers.{costsAt, columnBefore};
 
 // The rows of best scores of all outer kernels at a phase, from those of the phase before and the inner word of its row, whose
 // bit j chose for kernel j.
@@ -29,8 +28,8 @@ pub fn outer_rows(
     requires { ⌜ (kernel < 3) × (phase < 16) ⌝ }
     requires { ⌜ (shape ≡ getD (getD shapeTable kernel []) phase []) × (table ≡ pathRows kernel phase) ⌝ }
     requires { ⌜ ((j : ℕ) → j < 16 → Within 127 (getD (now costs) j [])) ⌝ }
-    requires { ⌜ (0 < phase → (j : ℕ) → j < 16 → Kept kernel (costsAt (now costs) j) (before phase columns j) (rowOf (getD rows j []) (Bit.bit (bits 16 word) j))) ⌝ }
-    ensures { λ r. ⌜ ((j : ℕ) → j < 16 → Held kernel (costsAt (now (costs .entry)) j) (before phase columns j) (getD r j [])) ⌝ }
+    requires { ⌜ (0 < phase → (j : ℕ) → j < 16 → Kept kernel (costsAt (now costs) j) (columnBefore phase columns j) (rowOf (getD rows j []) (Bit.bit (bits 16 word) j))) ⌝ }
+    ensures { λ r. ⌜ ((j : ℕ) → j < 16 → Held kernel (costsAt (now (costs .entry)) j) (columnBefore phase columns j) (getD r j [])) ⌝ }
 {
     let mut out = [[[0i32; 16]; 2]; 16];
     let mut j: usize = 0;

@@ -47,7 +47,7 @@ module _ (C : Code) (m : Costs) (u : List Bool) (i : ℕ) (e : length u ≡ C .s
       let p = take (suc i) u in
       let n : getD (penalties C m u) i d ≡ least C m p = penalties-at C m u i d (omega arith) in
       let a = least-at C m p (omega (arith, counted)) in
-      record { paid = (a .0, a .1, a .2 ∙ sym n); least = λ t q. rw n (least-le C m p t q) }
+      record { paid = (a .0, a .1, a .2 ∙ sym n); no-less = λ t q. rw n (least-le C m p t q) }
 
   -- and no other number is.
   pub penalty-only : (n : ℕ) → ExactPenalty C m u i n → n ≡ least C m (take (suc i) u)
@@ -55,13 +55,13 @@ module _ (C : Code) (m : Costs) (u : List Bool) (i : ℕ) (e : length u ≡ C .s
       let p = take (suc i) u in
       let a = least-at C m p (omega (arith, counted)) in
       let t = h .paid in
-      le-antisymm (rw (a .2) at (h .least (a .0) (a .1))) (rw (t .2) at (least-le C m p (t .0) (t .1)))
+      le-antisymm (rw (a .2) at (h .no-less (a .0) (a .1))) (rw (t .2) at (least-le C m p (t .0) (t .1)))
 
 -- ---- the decoder's symbols
 
 -- At a marked phase the symbol is the sign of the score,
 choose-sign : (c : Bool) (x : ℤ) → c ≡ true → IsSign x (choose c x)
-choose-sign c x e = record { zero = λ h. ap (λ c. choose c x) e ∙ choose-zero x h; one = λ h. ap (λ c. choose c x) e ∙ choose-one x h }
+choose-sign c x e = record { is-zero = λ h. ap (λ c. choose c x) e ∙ choose-zero x h; is-one = λ h. ap (λ c. choose c x) e ∙ choose-one x h }
 
 module _ (C : Code) (m : Costs) (mask : ℕ → Bool) (i : ℕ) (l : i < C .size) where
   pub marked-sign : (d : ℤ) → mask i ≡ true → IsSign (getD (scores C m (decode C m mask)) i d) (bit (decode C m mask) i)

@@ -21,9 +21,9 @@ pub record ExactScore (C : Code) (m : Costs) (u : List Bool) (i : ℕ) (x : ℤ)
 -- word pays less.
 pub record ExactPenalty (C : Code) (m : Costs) (u : List Bool) (i : ℕ) (n : ℕ) : Type 0 where
   pub paid : (t : List Bool) × (length (take (suc i) u ++ t) ≡ C .size) × (total C m (take (suc i) u ++ t) ≡ n)
-  pub least : (t : List Bool) → length (take (suc i) u ++ t) ≡ C .size → n ≤ total C m (take (suc i) u ++ t)
+  pub no-less : (t : List Bool) → length (take (suc i) u ++ t) ≡ C .size → n ≤ total C m (take (suc i) u ++ t)
 
 -- The bit b is the sign of the score x: 0 where it is 0 or more, so also on a tie, else 1.
 pub record IsSign (x : ℤ) (b : Bool) : Type 0 where
-  pub zero : pos 0 ≤ℤ x → b ≡ false
-  pub one : x <ℤ pos 0 → b ≡ true
+  pub is-zero : pos 0 ≤ℤ x → b ≡ false
+  pub is-one : x <ℤ pos 0 → b ≡ true

@@ -13,7 +13,7 @@ use Rattle.rounding.specs.Rounding.{softValue}
 use Rattle.quantiser.specs.declared.Symbol.{Symbol}
 use Rattle.quantiser.specs.declared.Mark.{Mark}
 use Rattle.quantiser.specs.declared.Mark.the-variants.{Heard, Blanked}
-use Rattle.quantiser.specs.declared.Pair.{Pair}
+use Rattle.quantiser.specs.declared.MarkValues.{MarkValues}
 
 -- Mark n: blanked where bit n of the packed blanking mask is 1, else heard, with the amplitudes 2n (I) and 2n + 1 (Q).
 abbrev pub markAt : List Float → List ℕ → ℕ → Mark
@@ -55,7 +55,7 @@ unfoldable pub valueAt : List Float → List ℕ → ℕ → ℤ
 valueAt amplitudes blanked k = valueOf (markAt amplitudes blanked (k / 2)) (k % 2)
 
 -- Proof side: the two values of a mark as the code holds them, and a mark none of whose amplitudes offends.
-abbrev pub pairOf : Mark → Pair
+abbrev pub pairOf : Mark → MarkValues
 pairOf m = record { i = valueOf m 0; q = valueOf m 1 }
 
 abbrev pub Sound : Mark → Type 0

@@ -28,7 +28,7 @@ pub enum Mark {
 }
 
 // The two soft values of a mark.
-pub struct Pair {
+pub struct MarkValues {
     pub i: i8,
     pub q: i8,
 }
@@ -100,7 +100,7 @@ fn mark_at(amplitudes: &[f32], blanked: &[u8], n: usize) -> Mark
 }
 
 // The two soft values of a mark.
-fn values_of(m: Mark) -> Pair
+fn values_of(m: Mark) -> MarkValues
     requires { ⌜ Sound m ⌝ }
     ensures { λ r. ⌜ r ≡ pairOf m ⌝ }
 {
@@ -108,9 +108,9 @@ fn values_of(m: Mark) -> Pair
         Mark::Heard(s) => {
             let i = quantise(s.i);
             let q = quantise(s.q);
-            Pair { i, q }
+            MarkValues { i, q }
         }
-        Mark::Blanked => Pair { i: 0, q: 0 },
+        Mark::Blanked => MarkValues { i: 0, q: 0 },
     }
 }
 

@@ -12,7 +12,7 @@ ghost use Rattle.polar.specs.Fold.{level};
 ghost use Rattle.folds.specs.Rows.{rowOf, cell, costsOf, Within, Pays};
 ghost use Rattle.windows.specs.Tables.{shapeTable, pathTable, pathRows};
 ghost use Rattle.windows.specs.Paths.{Kept, Held, Choice, pathWordOf, FourOf, lastLeast, pathLeast, IsDifference};
-use folds::Pair;
+use folds::PlaceCosts;
 
 mod phases;
 
@@ -88,17 +88,17 @@ struct Best {
 }
 
 // A place of the four that two folds leave.
-fn place(four: &[[u32; 4]; 2], i: usize) -> Pair
+fn place(four: &[[u32; 4]; 2], i: usize) -> PlaceCosts
     requires { ⌜ i < 4 ⌝ }
     ensures { λ r. ⌜ Pays (costsOf (now (four .entry))) i (r .zero) (r .one) ⌝ }
 {
     let zero = four[0][i];
     let one = four[1][i];
-    Pair { zero, one }
+    PlaceCosts { zero, one }
 }
 
 // The least totals of a path where its last v is 0 and where it is 1, by the last two folds.
-fn last_two(four: &[[u32; 4]; 2], high: usize, word: u32) -> Pair
+fn last_two(four: &[[u32; 4]; 2], high: usize, word: u32) -> PlaceCosts
     requires { ⌜ (high < 16) × ((j : ℕ) (b : Bool) → j < 4 → costsOf (now four) j b ≤ 262144) ⌝ }
     ensures { λ r. ⌜ Pays (level 1 (high % 2) (λ i. Bit.bit (bits 16 word) (high / 2 * 2 + i)) (level 2 (high % 4) (λ i. Bit.bit (bits 16 word) (high / 4 * 4 + i)) (costsOf (now (four .entry))))) 0 (r .zero) (r .one) ⌝ }
 {

@@ -1,4 +1,4 @@
--- The loop over the phases: what each turn asks for and leaves. Assumes nothing.
+-- What the phases of a run ask for and leave: numbers in range, and scores. Assumes nothing.
 use mathlib.Core.Path.{_≡_, refl, ap}
 use mathlib.Core.Bool.{Bool, true, false}
 use mathlib.Core.List.{List, []}

@@ -25,7 +25,7 @@ use Rattle.kernel.proofs.Solved as kernels
 use Rattle.kernel.proofs.Undoing.{word-of-v, some-v}
 use Rattle.windows.specs.Windows.{window, solution}
 use Rattle.windows.specs.Tables.{shapeAt, pathRows}
-use Rattle.windows.specs.Paths.{Kept, Held, Choice, chosen, IsDifference}
+use Rattle.windows.specs.Paths.{Kept, Held, Choice, choiceNumber, IsDifference}
 use Rattle.windows.proofs.Windows.{windowed}
 use Rattle.windows.proofs.Tables.{heightAt, shaped, fresh, again}
 use Rattle.windows.proofs.Paths.{fresh-least, old-number, again-path}
@@ -35,7 +35,7 @@ abbrev vCode : Code
 vCode = matrix 16 16 (arikan 4)
 
 -- The number chosen has the bits that were chosen.
-chosen-bits : (us : List Bool) (b : Bool) (ws : List Bool) → length us + (1 + length ws) ≤ 16 → Choice us b ws (chosen us b ws)
+chosen-bits : (us : List Bool) (b : Bool) (ws : List Bool) → length us + (1 + length ws) ≤ 16 → Choice us b ws (choiceNumber us b ws)
 chosen-bits us b ws l =
     let v = us ++ (b ∷ ws) ++ replicate (16 - (length us + (1 + length ws))) false in
     let e : length v ≡ 16 =
@@ -59,7 +59,7 @@ module _ (k s : ℕ) (lk : k < 3) (ls : s < 16) (m : Costs) (us : List Bool) (lu
           let d : shapeAt k s 0 - s ≡ length (window k i) = sym ((shaped k s lk ls) .wide) ∙ ap (λ i. length (window k i)) e in
           h w b (rw d l) ∙ ap₂ (λ i d. bestScore vCode m (pathOf (solution k i) (us ++ (b ∷ [])) (bits d w))) e d
 
-  choice-of : (b : Bool) (w : ℕ) → Choice us b (bits (shapeAt k s 0 - s) w) (chosen us b (bits (shapeAt k s 0 - s) w))
+  choice-of : (b : Bool) (w : ℕ) → Choice us b (bits (shapeAt k s 0 - s) w) (choiceNumber us b (bits (shapeAt k s 0 - s) w))
   choice-of b w =
       let ws = bits (shapeAt k s 0 - s) w in
       chosen-bits us b ws (omega (arith, length-bits (shapeAt k s 0 - s) w, (shaped k s lk ls) .low, (shaped k s lk ls) .reached))
@@ -68,7 +68,7 @@ module _ (k s : ℕ) (lk : k < 3) (ls : s < 16) (m : Costs) (us : List Bool) (lu
   pub fresh-held : shapeAt k s 1 ≡ 0 → (rows : List (List ℤ))
       → ((w : ℕ) (b : Bool) → w < 2 ^ (shapeAt k s 0 - s)
       → cell (pos 0) rows w b
-      ≡ (let x = rowSum (pathRows k s) (chosen us false (bits (shapeAt k s 0 - s) w)) in
+      ≡ (let x = rowSum (pathRows k s) (choiceNumber us false (bits (shapeAt k s 0 - s) w)) in
       negℤ (pos (folded 4 (shapeAt k s 0) (bit (bits 16 x)) m 0 (bit (bits 16 x) (shapeAt k s 0) ⊕ b)))))
       → Held k m us rows
   fresh-held f rows h =
@@ -77,29 +77,29 @@ module _ (k s : ℕ) (lk : k < 3) (ls : s < 16) (m : Costs) (us : List Bool) (lu
       let ws = bits (shapeAt k s 0 - s) w in
       h w b l
       ∙ ap (λ x. negℤ (pos x)) (sym (fresh-least k s (shapeAt k s 0) us ws lu (length-bits (shapeAt k s 0 - s) w) (omega (arith, t .low)) (t .reached) (t .high) (t .wide) ls
-      (fresh k s lk ls f) m (chosen us false ws) (choice-of false w) b)))
+      (fresh k s lk ls f) m (choiceNumber us false ws) (choice-of false w) b)))
 
   -- Any other phase: the number of a path before it is small,
-  pub again-small : (shapeAt k s 1 ≡ 0 → ⊥) → (w : ℕ) (b : Bool) → rowSum (pathRows k s) (chosen us b (bits (shapeAt k s 0 - s) w)) < 2 ^ length (window k s)
+  pub again-small : (shapeAt k s 1 ≡ 0 → ⊥) → (w : ℕ) (b : Bool) → rowSum (pathRows k s) (choiceNumber us b (bits (shapeAt k s 0 - s) w)) < 2 ^ length (window k s)
   again-small f w b =
       let t = shaped k s lk ls in
       old-number k s (shapeAt k s 0) us (bits (shapeAt k s 0 - s) w) lu (length-bits (shapeAt k s 0 - s) w) (omega (arith, t .low)) (t .reached) (t .high) (t .wide) ls
-      (again k s lk ls f) b (chosen us b (bits (shapeAt k s 0 - s) w)) (choice-of b w)
+      (again k s lk ls f) b (choiceNumber us b (bits (shapeAt k s 0 - s) w)) (choice-of b w)
 
-  -- and the rows are read from the one kept.
+  -- and the rows are read from that of the chosen symbol.
   pub again-held : (shapeAt k s 1 ≡ 0 → ⊥) → (kept : List ℤ) → Kept k m us kept → (rows : List (List ℤ))
       → ((w : ℕ) (b : Bool) → w < 2 ^ (shapeAt k s 0 - s)
-      → cell (pos 0) rows w b ≡ getD kept (rowSum (pathRows k s) (chosen us b (bits (shapeAt k s 0 - s) w))) (pos 0))
+      → cell (pos 0) rows w b ≡ getD kept (rowSum (pathRows k s) (choiceNumber us b (bits (shapeAt k s 0 - s) w))) (pos 0))
       → Held k m us rows
   again-held f kept h rows e =
       let t = shaped k s lk ls in
       held rows (λ w b l.
       let ws = bits (shapeAt k s 0 - s) w in
       e w b l
-      ∙ h (rowSum (pathRows k s) (chosen us b ws)) (subst⁻¹ (λ i. rowSum (pathRows k s) (chosen us b ws) < 2 ^ length (window k i)) lu (again-small f w b))
-      ∙ ap (λ i. bestScore vCode m (pathOf (solution k i) us (bits (length (window k i)) (rowSum (pathRows k s) (chosen us b ws))))) lu
+      ∙ h (rowSum (pathRows k s) (choiceNumber us b ws)) (subst⁻¹ (λ i. rowSum (pathRows k s) (choiceNumber us b ws) < 2 ^ length (window k i)) lu (again-small f w b))
+      ∙ ap (λ i. bestScore vCode m (pathOf (solution k i) us (bits (length (window k i)) (rowSum (pathRows k s) (choiceNumber us b ws))))) lu
       ∙ ap (bestScore vCode m) (again-path k s (shapeAt k s 0) us ws lu (length-bits (shapeAt k s 0 - s) w) (omega (arith, t .low)) (t .reached) (t .high) (t .wide) ls
-      (again k s lk ls f) b (chosen us b ws) (choice-of b w)))
+      (again k s lk ls f) b (choiceNumber us b ws) (choice-of b w)))
 
   -- The least total of the kernel's words that begin with us and b, by the paths of the window.
   pub by-paths : (b : Bool) → least (kernelCode k) m (us ++ (b ∷ []))

@@ -11,10 +11,10 @@ use lib.Pow.{pow-mono, shl-exact}
 use Rattle.bits.specs.Packed.{bits, number}
 use Rattle.bits.proofs.Packed.{number-bits-fit}
 use Rattle.kernel.specs.Rows.{rowSum}
-use Rattle.windows.specs.Paths.{Choice, chosen, pathWordOf}
+use Rattle.windows.specs.Paths.{Choice, choiceNumber, pathWordOf}
 
 -- A number of sixteen bits that has the chosen bits is the chosen number.
-pub chosen-is : (us : List Bool) (b : Bool) (ws : List Bool) (x : ℕ) → x < 2 ^ 16 → Choice us b ws x → x ≡ chosen us b ws
+pub chosen-is : (us : List Bool) (b : Bool) (ws : List Bool) (x : ℕ) → x < 2 ^ 16 → Choice us b ws x → x ≡ choiceNumber us b ws
 chosen-is us b ws x l e = sym (number-bits-fit 16 x l) ∙ ap number e
 
 module _ (table : List ℕ) (symbols phase high : ℕ) (b : Bool) (w x : ℕ) (l : x < 2 ^ 16)

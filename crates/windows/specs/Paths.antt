@@ -36,12 +36,12 @@ abbrev pub Choice : List Bool → Bool → List Bool → ℕ → Type 0
 Choice us b ws x = bits 16 x ≡ us ++ (b ∷ ws) ++ replicate (16 - (length us + (1 + length ws))) false
 
 -- The number that has those bits.
-abbrev pub chosen : List Bool → Bool → List Bool → ℕ
-chosen us b ws = number (us ++ (b ∷ ws) ++ replicate (16 - (length us + (1 + length ws))) false)
+abbrev pub choiceNumber : List Bool → Bool → List Bool → ℕ
+choiceNumber us b ws = number (us ++ (b ∷ ws) ++ replicate (16 - (length us + (1 + length ws))) false)
 
 -- What a phase's table makes of the symbols before the phase, the phase's own and path w. The highest v in use is v high.
 abbrev pub pathWordOf : List ℕ → ℕ → ℕ → ℕ → Bool → ℕ → ℕ
-pathWordOf table symbols phase high b w = rowSum table (chosen (take phase (bits 16 symbols)) b (bits (high - phase) w))
+pathWordOf table symbols phase high b w = rowSum table (choiceNumber (take phase (bits 16 symbols)) b (bits (high - phase) w))
 
 -- Four costs: what the first two folds leave for a path with this word.
 abbrev pub FourOf : List (List ℕ) → ℕ → List (List ℕ) → ℕ → Type 0

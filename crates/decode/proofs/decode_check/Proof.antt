@@ -47,16 +47,16 @@ returns-7 : tie.Need-returns-7
 unfolding frameDecodeChecks valueCheck
 returns-7 c = simp (sym (c .before .before .before .before .before .before .before .is-pair .ensures) ∙ not-false _ (c .before .before .before .before .before .before .if1 .left), eq-eqb _ _ (c .before .before .before .before .before .if2 .left), eq-eqb _ _ (c .before .before .before .before .if3 .left), good (c .before .before .before), le-ltb _ _ (c .before .before .if5 .left), le-ltb _ _ (c .before .if6 .left), ap (ltb (c .before .before .before .before .before .before .before .before .before .args .payload-room)) (sym (bytes-eighth _ (c .before .before .before .before .if3 .left) (good (c .before .before .before))) ∙ sym (c .before .before .before .before .before .before .before .before .before .pre)) ∙ lt-ltb _ _ (c .if7 .taken))
 
-first-outside-requires : tie.Need-first-outside-requires
-first-outside-requires c κs = search needs
+frame-outside-requires : tie.Need-frame-outside-requires
+frame-outside-requires c κs = search needs
 
 returns-8 : tie.Need-returns-8
 unfolding frameDecodeChecks valueCheck
-returns-8 c = simp (sym (c .before .before .before .before .before .before .before .before .before .is-pair .ensures) ∙ not-false _ (c .before .before .before .before .before .before .before .before .if1 .left), c .before .before .before .before .before .before .before .if2 .left, eq-eqb _ _ (c .before .before .before .before .before .before .if3 .left), good (c .before .before .before .before .before), le-ltb _ _ (c .before .before .before .before .if5 .left), le-ltb _ _ (c .before .before .before .if6 .left), ap (ltb (c .before .before .before .before .before .before .before .before .before .before .before .args .payload-room)) (sym (bytes-eighth _ (c .before .before .before .before .before .before .if3 .left) (good (c .before .before .before .before .before))) ∙ sym (c .before .before .before .before .before .before .before .before .before .before .before .pre)) ∙ le-ltb _ _ (c .before .before .if7 .left), ← c .before .first-outside .ensures, lt-ltb _ _ (c .if8 .taken))
+returns-8 c = simp (sym (c .before .before .before .before .before .before .before .before .before .is-pair .ensures) ∙ not-false _ (c .before .before .before .before .before .before .before .before .if1 .left), c .before .before .before .before .before .before .before .if2 .left, eq-eqb _ _ (c .before .before .before .before .before .before .if3 .left), good (c .before .before .before .before .before), le-ltb _ _ (c .before .before .before .before .if5 .left), le-ltb _ _ (c .before .before .before .if6 .left), ap (ltb (c .before .before .before .before .before .before .before .before .before .before .before .args .payload-room)) (sym (bytes-eighth _ (c .before .before .before .before .before .before .if3 .left) (good (c .before .before .before .before .before))) ∙ sym (c .before .before .before .before .before .before .before .before .before .before .before .pre)) ∙ le-ltb _ _ (c .before .before .if7 .left), ← c .before .frame-outside .ensures, lt-ltb _ _ (c .if8 .taken))
 
 returns-9 : tie.Need-returns-9
 unfolding frameDecodeChecks valueCheck
-returns-9 c = simp (sym (c .before .before .before .before .before .before .before .before .before .is-pair .ensures) ∙ not-false _ (c .before .before .before .before .before .before .before .before .if1 .left), c .before .before .before .before .before .before .before .if2 .left, eq-eqb _ _ (c .before .before .before .before .before .before .if3 .left), good (c .before .before .before .before .before), le-ltb _ _ (c .before .before .before .before .if5 .left), le-ltb _ _ (c .before .before .before .if6 .left), ap (ltb (c .before .before .before .before .before .before .before .before .before .before .before .args .payload-room)) (sym (bytes-eighth _ (c .before .before .before .before .before .before .if3 .left) (good (c .before .before .before .before .before))) ∙ sym (c .before .before .before .before .before .before .before .before .before .before .before .pre)) ∙ le-ltb _ _ (c .before .before .if7 .left), ← c .before .first-outside .ensures, le-ltb _ _ (c .if8 .left))
+returns-9 c = simp (sym (c .before .before .before .before .before .before .before .before .before .is-pair .ensures) ∙ not-false _ (c .before .before .before .before .before .before .before .before .if1 .left), c .before .before .before .before .before .before .before .if2 .left, eq-eqb _ _ (c .before .before .before .before .before .before .if3 .left), good (c .before .before .before .before .before), le-ltb _ _ (c .before .before .before .before .if5 .left), le-ltb _ _ (c .before .before .before .if6 .left), ap (ltb (c .before .before .before .before .before .before .before .before .before .before .before .args .payload-room)) (sym (bytes-eighth _ (c .before .before .before .before .before .before .if3 .left) (good (c .before .before .before .before .before))) ∙ sym (c .before .before .before .before .before .before .before .before .before .before .before .pre)) ∙ le-ltb _ _ (c .before .before .if7 .left), ← c .before .frame-outside .ensures, le-ltb _ _ (c .if8 .left))
 
 pub decode-check-spec : {M : Type 1} → statement M
 decode-check-spec =
@@ -70,6 +70,6 @@ decode-check-spec =
     returns-5
     returns-6
     returns-7
-    first-outside-requires
+    frame-outside-requires
     returns-8
     returns-9)

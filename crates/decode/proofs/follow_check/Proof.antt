@@ -29,16 +29,16 @@ returns-5 : tie.Need-returns-5
 unfolding frameFollowChecks valueCheck
 returns-5 c = simp (sym (c .before .before .before .before .before .is-pair .ensures) ∙ not-false _ (c .before .before .before .before .if1 .left), eq-eqb _ _ (c .before .before .before .if2 .left), eq-eqb _ _ (c .before .before .if3 .left), le-ltb _ _ (c .before .if4 .left), lt-ltb _ _ (c .if5 .taken))
 
-first-outside-requires : tie.Need-first-outside-requires
-first-outside-requires c κs = search needs
+frame-outside-requires : tie.Need-frame-outside-requires
+frame-outside-requires c κs = search needs
 
 returns-6 : tie.Need-returns-6
 unfolding frameFollowChecks valueCheck
-returns-6 c = simp (sym (c .before .before .before .before .before .before .before .is-pair .ensures) ∙ not-false _ (c .before .before .before .before .before .before .if1 .left), c .before .before .before .before .before .if2 .left, eq-eqb _ _ (c .before .before .before .before .if3 .left), le-ltb _ _ (c .before .before .before .if4 .left), le-ltb _ _ (c .before .before .if5 .left), ← c .before .first-outside .ensures, lt-ltb _ _ (c .if6 .taken))
+returns-6 c = simp (sym (c .before .before .before .before .before .before .before .is-pair .ensures) ∙ not-false _ (c .before .before .before .before .before .before .if1 .left), c .before .before .before .before .before .if2 .left, eq-eqb _ _ (c .before .before .before .before .if3 .left), le-ltb _ _ (c .before .before .before .if4 .left), le-ltb _ _ (c .before .before .if5 .left), ← c .before .frame-outside .ensures, lt-ltb _ _ (c .if6 .taken))
 
 returns-7 : tie.Need-returns-7
 unfolding frameFollowChecks valueCheck
-returns-7 c = simp (sym (c .before .before .before .before .before .before .before .is-pair .ensures) ∙ not-false _ (c .before .before .before .before .before .before .if1 .left), c .before .before .before .before .before .if2 .left, eq-eqb _ _ (c .before .before .before .before .if3 .left), le-ltb _ _ (c .before .before .before .if4 .left), le-ltb _ _ (c .before .before .if5 .left), ← c .before .first-outside .ensures, le-ltb _ _ (c .if6 .left))
+returns-7 c = simp (sym (c .before .before .before .before .before .before .before .is-pair .ensures) ∙ not-false _ (c .before .before .before .before .before .before .if1 .left), c .before .before .before .before .before .if2 .left, eq-eqb _ _ (c .before .before .before .before .if3 .left), le-ltb _ _ (c .before .before .before .if4 .left), le-ltb _ _ (c .before .before .if5 .left), ← c .before .frame-outside .ensures, le-ltb _ _ (c .if6 .left))
 
 pub follow-check-spec : {M : Type 1} → statement M
 follow-check-spec =
@@ -50,6 +50,6 @@ follow-check-spec =
     returns-3
     returns-4
     returns-5
-    first-outside-requires
+    frame-outside-requires
     returns-6
     returns-7)

@@ -6,14 +6,14 @@ use native.Mathlib.Omega.{arith}
 use lib.ListN.{length, getD}
 use Rattle.base.proofs.List.{each-next}
 use Rattle.windows.specs.Paths.{Held}
-use Rattle.layers.specs.Layers.{costsAt, before}
+use Rattle.layers.specs.Layers.{costsAt, columnBefore}
 use borrow.Author.Needs.{needs}
 use Rattle.layers.proofs.outer_rows.Statement.{statement}
 use Rattle.layers.proofs.outer_rows.Tie as tie
 
 abbrev Inv-loop : tie.InvT-loop
 Inv-loop kernel phase shape costs word table columns rows out₀ j₀ out j =
-    (j ≤ 16) × (length out ≡ 16) × ((i : ℕ) → i < j → Held kernel (costsAt costs i) (before phase columns i) (getD out i []))
+    (j ≤ 16) × (length out ≡ 16) × ((i : ℕ) → i < j → Held kernel (costsAt costs i) (columnBefore phase columns i) (getD out i []))
 
 abbrev μ-loop : tie.MeasureT-loop
 μ-loop kernel phase shape costs word table columns rows out₀ j₀ out j = 16 - j
@@ -67,7 +67,7 @@ loop-again c =
     let l = c .before .before .before .before .before .before .loop in (
       search needs,
       search needs,
-      each-next (λ i. Held (a .kernel) (costsAt (a .costs .now) i) (before (a .phase) (a .t6) i)) (l .out) (l .j) [] (c .step .result) (search needs) (l .inv .2)
+      each-next (λ i. Held (a .kernel) (costsAt (a .costs .now) i) (columnBefore (a .phase) (a .t6) i)) (l .out) (l .j) [] (c .step .result) (search needs) (l .inv .2)
           (c .step .ensures),
     )
 

@@ -9,7 +9,7 @@ use mir.Facts.{toZ-ofZ}
 use Rattle.base.specs.Bit.{tabulate}
 use Rattle.base.proofs.List.{filled}
 use Rattle.quantiser.specs.Marks.{markAt, valueAt, pairOf, Sound}
-use Rattle.quantiser.specs.declared.Pair.{Pair}
+use Rattle.quantiser.specs.declared.MarkValues.{MarkValues}
 use Rattle.quantiser.proofs.Request.{all-sound, value-at, value-fits, two-more, length-filled}
 use borrow.Author.Needs.{needs}
 use Rattle.quantiser.proofs.store_values.Statement.{statement}
@@ -80,8 +80,8 @@ loop-again c =
     let e : p ≡ pairOf m = c .before .before .values-of .ensures ∙ ap pairOf (c .before .before .before .mark-at .ensures) in (
       omega arith,
       two-more (valueAt (a .amplitudes .now) (a .blanked .now)) (l .n) (a .values .now) (l .values) (toZ w8 (ofZ w8 (p .i))) (toZ w8 (ofZ w8 (p .q))) (omega arith) (l .inv .1)
-          (ap (λ (r : Pair). toZ w8 (ofZ w8 (r .i))) e ∙ toZ-ofZ (value-fits m 0) ∙ sym (value-at (a .amplitudes .now) (a .blanked .now) (l .n) 0 (omega arith)))
-          (ap (λ (r : Pair). toZ w8 (ofZ w8 (r .q))) e ∙ toZ-ofZ (value-fits m 1) ∙ sym (value-at (a .amplitudes .now) (a .blanked .now) (l .n) 1 (omega arith))),
+          (ap (λ (r : MarkValues). toZ w8 (ofZ w8 (r .i))) e ∙ toZ-ofZ (value-fits m 0) ∙ sym (value-at (a .amplitudes .now) (a .blanked .now) (l .n) 0 (omega arith)))
+          (ap (λ (r : MarkValues). toZ w8 (ofZ w8 (r .q))) e ∙ toZ-ofZ (value-fits m 1) ∙ sym (value-at (a .amplitudes .now) (a .blanked .now) (l .n) 1 (omega arith))),
     )
 
 same-length : tie.Need-same-length Inv-loop μ-loop

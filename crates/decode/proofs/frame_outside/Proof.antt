@@ -1,4 +1,4 @@
--- `decode::first_outside` meets its contract. The search has passed j blocks. Assumes nothing.
+-- `decode::frame_outside` meets its contract. The search has passed j blocks. Assumes nothing.
 use mathlib.Core.Path.{_≡_, sym, ap, _∙_}
 use Prim.Native.Nat.{_+_, _-_, _*_, _≤_, _<_}
 use native.Mathlib.Nat.{zero-add}
@@ -7,8 +7,8 @@ use lib.ListN.{length}
 use Rattle.folds.specs.Range.{firstOutside}
 use Rattle.folds.proofs.Range.{Passed, found-in, passed-block, passed-all}
 use borrow.Author.Needs.{needs}
-use Rattle.decode.proofs.first_outside.Statement.{statement}
-use Rattle.decode.proofs.first_outside.Tie as tie
+use Rattle.decode.proofs.frame_outside.Statement.{statement}
+use Rattle.decode.proofs.frame_outside.Tie as tie
 
 abbrev Inv-loop : tie.InvT-loop
 Inv-loop values j₀ j = (j ≤ 16) × Passed 127 values (16 * j)
@@ -69,8 +69,8 @@ returns-2 c =
     let e : l .j ≡ 16 = search needs in
     passed-all 127 (z .args .values .now) 256 (omega (arith, z .pre)) (omega (arith, z .pre)) (rw e at (l .inv .1))
 
-pub first-outside-spec : {M : Type 1} → statement M
-first-outside-spec =
+pub frame-outside-spec : {M : Type 1} → statement M
+frame-outside-spec =
     tie.close
     (tie.spec
     Inv-loop
