@@ -27,7 +27,7 @@
  * The library is built for x86-64 Linux, because that is what the kit that
  * proves it compiles for. Firmware on another processor needs the kit's back
  * end for that processor. On x86-64 frame follow and frame decode take at most
- * 12.5 KiB of stack, kernel follow 3.8 KiB (measured, not proved; see
+ * 14.6 KiB of stack, kernel follow 3.3 KiB (measured, not proved; see
  * docs/BENCH.md).
  *
  * What the caller must keep, and nothing proves or looks at:

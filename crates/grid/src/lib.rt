@@ -8,15 +8,16 @@ ghost use Rattle.bits.specs.Packed.{unpack, pack};
 ghost use Rattle.polar.specs.Frame.{frame};
 ghost use Rattle.grid.specs.Grid.{kernelOf, columnSum, columnSums, rowsBits};
 
-// The sum of the rows that column j of the choosing rows chooses.
+// The sum of the rows that column j of the choosing rows chooses. The bit is read here, so that vectors have lanes of sixteen bits.
 fn column_sum(rows: [u16; 16], choosing: [u16; 16], j: usize) -> u16
     requires { ⌜ j < 16 ⌝ }
     ensures { λ r. ⌜ r ≡ columnSum rows choosing j ⌝ }
 {
+    let shift = 15 - j;
     let mut c: u16 = 0;
     let mut r: usize = 0;
     while r < 16 {
-        if bits::word_bit(choosing[r] as u32, j) {
+        if (choosing[r] >> shift) % 2 == 1 {
             c = c ^ rows[r];
         }
         r += 1;

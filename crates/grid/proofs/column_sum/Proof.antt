@@ -8,34 +8,37 @@ use lib.Bits.{xor-lt}
 use lib.ListN.{getD}
 use mir.Val.{Fits}
 use mir.Syntax.{w16}
+use Rattle.bits.proofs.Packed.{bits-shift}
 use Rattle.kernel.specs.Rows.{rowBit}
 use Rattle.kernel.proofs.Rows.{Summed, summed-none, summed-row, summed-skip, summed-all}
 use borrow.Author.Needs.{needs}
+use borrow.Author.Tests.{eq-eqb, ne-eqb}
 use Rattle.grid.proofs.column_sum.Statement.{statement}
 use Rattle.grid.proofs.column_sum.Tie as tie
 
 abbrev Inv-loop : tie.InvT-loop
-Inv-loop j rows choosing c₀ r₀ c r = (r ≤ 16) × (c < 2 ^ 16) × Summed rows (λ s. rowBit choosing s j) c r
+Inv-loop j rows choosing shift c₀ r₀ c r = (r ≤ 16) × (c < 2 ^ 16) × Summed rows (λ s. rowBit choosing s j) c r
 
 abbrev μ-loop : tie.MeasureT-loop
-μ-loop j rows choosing c₀ r₀ c r = 16 - r
+μ-loop j rows choosing shift c₀ r₀ c r = 16 - r
+
+sub-shift : tie.Need-sub-shift Inv-loop μ-loop
+sub-shift c = search needs
 
 loop-holds : tie.Need-loop-holds Inv-loop μ-loop
 loop-holds c = (search needs, search needs, summed-none (c .args .t1) (λ s. rowBit (c .args .t2) s (c .args .j)))
 
-mul-word-bit : tie.Need-mul-word-bit Inv-loop μ-loop
-mul-word-bit c = search needs
+mul-if1 : tie.Need-mul-if1 Inv-loop μ-loop
+mul-if1 c = search needs
 
-array-read-word-bit : tie.Need-array-read-word-bit Inv-loop μ-loop
-array-read-word-bit c = search needs
+array-read-if1 : tie.Need-array-read-if1 Inv-loop μ-loop
+array-read-if1 c = search needs
 
-cast-word-bit : tie.Need-cast-word-bit Inv-loop μ-loop
-cast-word-bit c =
-    let f : Fits w16 (getD (c .before .before .args .t2) (c .before .loop .r) 0) = search needs in
-    omega (arith, f .fits)
+cast-if1 : tie.Need-cast-if1 Inv-loop μ-loop
+cast-if1 c = search needs
 
-word-bit-requires : tie.Need-word-bit-requires Inv-loop μ-loop
-word-bit-requires c κs = search needs
+shr-if1 : tie.Need-shr-if1 Inv-loop μ-loop
+shr-if1 c = search needs
 
 mul-c : tie.Need-mul-c Inv-loop μ-loop
 mul-c c = search needs
@@ -51,20 +54,21 @@ loop-less c = search needs
 
 loop-again : tie.Need-loop-again Inv-loop μ-loop
 loop-again c =
-    let a = c .before .before .before .before .args in
-    let l = c .before .before .before .loop in
+    let a = c .before .before .before .args in
+    let l = c .before .before .loop in
+    let b = bits-shift 15 (getD (a .t2) (l .r) 0) (a .j) (omega arith) in
     let f : ℕ → Bool = λ s. rowBit (a .t2) s (a .j) in
     ⊎-elim
     (λ w.
     let row : Fits w16 (getD (a .t1) (l .r) 0) = search needs in (
       search needs,
       rw (w .1) (xor-lt 16 (l .c) (getD (a .t1) (l .r) 0) (l .inv .1) (row .fits)),
-      summed-row (a .t1) f (l .c) (c .if1 .c) (l .r) (sym (c .before .word-bit .ensures) ∙ w .0 .taken) (w .1) (l .inv .2),
+      summed-row (a .t1) f (l .c) (c .if1 .c) (l .r) (b ∙ eq-eqb _ _ (w .0 .taken)) (w .1) (l .inv .2),
     ))
     (λ w. (
       search needs,
       rw (w .1) (l .inv .1),
-      summed-skip (a .t1) f (l .c) (c .if1 .c) (l .r) (sym (c .before .word-bit .ensures) ∙ w .0 .left) (w .1) (l .inv .2),
+      summed-skip (a .t1) f (l .c) (c .if1 .c) (l .r) (b ∙ ne-eqb _ _ (w .0 .left)) (w .1) (l .inv .2),
     ))
     (c .if1 .came)
 
@@ -80,11 +84,12 @@ column-sum-spec =
     (tie.spec
     Inv-loop
     μ-loop
+    sub-shift
     loop-holds
-    mul-word-bit
-    array-read-word-bit
-    cast-word-bit
-    word-bit-requires
+    mul-if1
+    array-read-if1
+    cast-if1
+    shr-if1
     mul-c
     array-read-c
     add-r
