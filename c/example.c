@@ -21,6 +21,9 @@ enum {
     FADED = 99         /* and another one */
 };
 
+/* What the receiver made of its noise: an amplitude of 1 counts as 32 steps. */
+static const float SCALE = 32.0f;
+
 /* Ends the program unless something holds. */
 static void expect(int holds, const char *what)
 {
@@ -107,13 +110,14 @@ static void channel(const uint8_t *word, float *amplitudes)
 }
 
 /* The receiver: marks to values, and values to the payload. */
-static struct nospridda_outcome receive(const float *amplitudes, const uint8_t *blanked, const uint8_t *mask,
-                                        uint16_t *penalties, uint8_t *payload, size_t payload_length)
+static struct nospridda_outcome receive(float scale, const float *amplitudes, const uint8_t *blanked,
+                                        const uint8_t *mask, uint16_t *penalties,
+                                        uint8_t *payload, size_t payload_length)
 {
     int8_t values[NOSPRIDDA_FRAME_BITS];
     int16_t scores[NOSPRIDDA_FRAME_BITS];
     struct nospridda_outcome outcome = nospridda_values_from_marks(
-        amplitudes, NOSPRIDDA_FRAME_BITS, blanked, NOSPRIDDA_MARK_BYTES, values, NOSPRIDDA_FRAME_BITS);
+        scale, amplitudes, NOSPRIDDA_FRAME_BITS, blanked, NOSPRIDDA_MARK_BYTES, values, NOSPRIDDA_FRAME_BITS);
 
     if (outcome.number == NOSPRIDDA_ACCEPTED) {
         outcome = nospridda_frame_decode(KERNEL, KERNEL, values, NOSPRIDDA_FRAME_BITS, mask, NOSPRIDDA_FRAME_BYTES,
@@ -128,7 +132,7 @@ static void refuse_infinity(const float *amplitudes, const uint8_t *blanked, con
 {
     uint16_t penalties[NOSPRIDDA_FRAME_BITS] = {0};
     uint8_t payload[PAYLOAD_BYTES] = {0};
-    struct nospridda_outcome outcome = receive(amplitudes, blanked, mask, penalties, payload, sizeof payload);
+    struct nospridda_outcome outcome = receive(SCALE, amplitudes, blanked, mask, penalties, payload, sizeof payload);
     size_t i;
 
     refused(outcome, "values from marks, all heard", NOSPRIDDA_NOT_FINITE);
@@ -147,7 +151,7 @@ static unsigned wrong_signs(const float *amplitudes, const uint8_t *blanked, con
     unsigned paid = 0;
     size_t i;
 
-    accepted(nospridda_values_from_marks(amplitudes, NOSPRIDDA_FRAME_BITS, blanked, NOSPRIDDA_MARK_BYTES,
+    accepted(nospridda_values_from_marks(SCALE, amplitudes, NOSPRIDDA_FRAME_BITS, blanked, NOSPRIDDA_MARK_BYTES,
                                          values, NOSPRIDDA_FRAME_BITS),
              "values from marks");
     for (i = 0; i < NOSPRIDDA_FRAME_BITS; i++) {
@@ -193,7 +197,7 @@ int main(void)
             "frame undo of the signs", NOSPRIDDA_FROZEN_ONE);
 
     /* The decoder looks at the sizes too. */
-    accepted(receive(amplitudes, blanked, mask, penalties, decoded, sizeof decoded), "frame decode");
+    accepted(receive(SCALE, amplitudes, blanked, mask, penalties, decoded, sizeof decoded), "frame decode");
     printf("final penalty:   %u\n", (unsigned)penalties[NOSPRIDDA_FRAME_BITS - 1]);
     print_bytes("payload decoded: ", decoded, sizeof decoded);
 

@@ -10,8 +10,8 @@
 
 #include "nospridda.h"
 
-#if NOSPRIDDA_VERSION != 1
-#error "c/header.c is for version 1 of the header"
+#if NOSPRIDDA_VERSION != 2
+#error "c/header.c is for version 2 of the header"
 #endif
 
 /* The header's sizes under shorter names. */
@@ -220,18 +220,26 @@ static void marks(void)
 
     expect(2 * MARKS == SYMBOLS && 8 * MARK_BYTES == MARKS && 8 * WORD_BYTES == SYMBOLS, "the sizes of the header");
     memset(values, 1, sizeof values);
-    outcome(nospridda_values_from_marks(amplitudes, SYMBOLS, blanked, sizeof blanked, values, SYMBOLS),
+    outcome(nospridda_values_from_marks(32.0f, amplitudes, SYMBOLS, blanked, sizeof blanked, values, SYMBOLS),
             NOSPRIDDA_ACCEPTED, 0, "values from marks");
     expect(values[0] == 32 && values[1] == 0 && values[2] == 2 && values[3] == -127, "the values of four amplitudes");
     for (i = 4; i < SYMBOLS; i++) {
         expect(values[i] == 0, "the values of amplitudes 0");
     }
+    outcome(nospridda_values_from_marks(3.0f, amplitudes, SYMBOLS, blanked, sizeof blanked, values, SYMBOLS),
+            NOSPRIDDA_ACCEPTED, 0, "values from marks, scale 3");
+    expect(values[0] == 3 && values[1] == 0 && values[2] == 0 && values[3] == -24, "the values with scale 3");
 
     amplitudes[9] = NAN;
-    outcome(nospridda_values_from_marks(amplitudes, SYMBOLS, blanked, sizeof blanked, values, SYMBOLS),
+    outcome(nospridda_values_from_marks(32.0f, amplitudes, SYMBOLS, blanked, sizeof blanked, values, SYMBOLS),
             NOSPRIDDA_NOT_FINITE, 9, "values from marks, NaN heard");
+    outcome(nospridda_values_from_marks(0.0f, amplitudes, SYMBOLS, blanked, sizeof blanked, values, SYMBOLS),
+            NOSPRIDDA_BAD_SCALE, 0, "values from marks, scale 0 and NaN heard");
+    outcome(nospridda_values_from_marks(NAN, amplitudes, SYMBOLS, blanked, sizeof blanked, values, SYMBOLS - 1),
+            NOSPRIDDA_SHORT_OUTPUT, 0, "values from marks, scale NaN and room for 255");
+    expect(values[0] == 3 && values[3] == -24, "values after a refusal");
     set_bit(blanked, 4);
-    outcome(nospridda_values_from_marks(amplitudes, SYMBOLS, blanked, sizeof blanked, values, SYMBOLS),
+    outcome(nospridda_values_from_marks(32.0f, amplitudes, SYMBOLS, blanked, sizeof blanked, values, SYMBOLS),
             NOSPRIDDA_ACCEPTED, 0, "values from marks, NaN blanked");
     expect(values[0] == 32 && values[9] == 0, "the values with a blanked mark");
 }

@@ -8,10 +8,11 @@
  * mask marks the information phases: k of them take a payload of k/8 bytes.
  *
  * Every job but the payload part answers with a number. 0 says that it was
- * accepted; 1 to 9 is the first condition that held, in checking order, and the
- * job did nothing else. The checking order is that of the numbers. With 6, 7
- * and 9 goes a place, counted from 0; with every other number the place is 0.
- * Each job's text names the numbers that it can answer; no other one comes.
+ * accepted; 1 to 10 is the first condition that held, in checking order, and
+ * the job did nothing else. The checking order is 1 to 6, then 10, then 7 to 9.
+ * With 6, 7 and 9 goes a place, counted from 0; with every other number the
+ * place is 0. Each job's text names the numbers that it can answer, in checking
+ * order; no other one comes.
  *
  * Buffers are handed over as a pointer and then the count of elements, which
  * is not always the count of bytes. A buffer that is const is only read. An
@@ -51,7 +52,7 @@
 /* The version of this interface. It goes up by one with every change of a
  * declaration, a number, a size or a result that callers could rely on. What is
  * only added leaves it as it is. */
-#define NOSPRIDDA_VERSION 1
+#define NOSPRIDDA_VERSION 2
 
 /* Sizes, in elements of the buffer that they are for. */
 #define NOSPRIDDA_KERNEL_BITS 16  /* symbols, bits, values and scores of a kernel */
@@ -75,7 +76,8 @@ enum nospridda_number {
     NOSPRIDDA_VALUE_OUT_OF_RANGE = 6, /* a value lies outside the job's range; place: the lowest such value */
     NOSPRIDDA_NOT_FINITE = 7,         /* a heard amplitude is NaN or infinite; place: the lowest such amplitude */
     NOSPRIDDA_WRONG_SIZE = 8,         /* a payload size for the information mask is outside 1 to 32 */
-    NOSPRIDDA_FROZEN_ONE = 9          /* a word to undo has symbol 1 at an unmarked phase; place: the lowest such phase */
+    NOSPRIDDA_FROZEN_ONE = 9,         /* a word to undo has symbol 1 at an unmarked phase; place: the lowest such phase */
+    NOSPRIDDA_BAD_SCALE = 10          /* the scale of values from marks is not a finite number above zero */
 };
 
 /* The outcome of a job without a word: the number, and the place that a
@@ -245,23 +247,28 @@ struct nospridda_outcome nospridda_information_mask(
     size_t p,
     uint8_t *mask, size_t mask_length);
 
-/* Values from marks: the channel values of 128 received marks.
+/* Values from marks: the channel values of 128 received marks, under a scale.
  *
+ * scale      a finite number above zero, of any size; the receiver measures it.
  * amplitudes 256 floats; 2n and 2n+1 are I and Q of mark n.
  * blanked    16 bytes, one bit for each mark, 1 for a blanked one.
  * values     256 of them are written, each from -127 to 127.
  *
  * A blanked mark gives 0 and 0; its amplitudes are not looked at and may be
- * anything, NaN too. A heard amplitude times 32 goes to the nearest whole
- * number, a half to the even neighbour, then to the range -127 to 127; minus
- * zero gives 0.
+ * anything, NaN too. A heard amplitude times the scale is rounded once in float
+ * and then goes to the nearest whole number, a half to the even neighbour, then
+ * to the range -127 to 127; a product that overflows float goes to 127 or -127
+ * by its sign, and minus zero gives 0. Each value of a heard mark lies within
+ * 1/2 + 1/131072 of the exact product limited to -127 to 127.
  *
  * Answers 0, or, with values left as they were,
  *   2  amplitudes_length is not 256, or blanked_length is not 16;
  *   5  values_length is below 256;
+ *  10  scale is not a finite number above zero: NaN, infinite, zero or below;
  *   7  an amplitude of a heard mark is NaN or infinite; place: the index of the
  *      lowest such amplitude, 0 to 255. */
 struct nospridda_outcome nospridda_values_from_marks(
+    float scale,
     const float *amplitudes, size_t amplitudes_length,
     const uint8_t *blanked, size_t blanked_length,
     int8_t *values, size_t values_length);

@@ -12,8 +12,8 @@ use crate::library::{
     frame_decode, frame_encode, frame_follow, frame_undo, information_mask, kernel_encode,
     kernel_follow, kernel_undo, part_length, values_from_marks,
 };
-use crate::marks::value;
 use crate::paper::Kernel;
+use crate::product::value;
 use crate::random::Random;
 use crate::scores::{pay, scores as kernel_scores, totals, Values};
 
@@ -22,6 +22,9 @@ const INPUTS: usize = 256;
 
 /// The bytes of a frame's payload: k = 128.
 const PAYLOAD: usize = 16;
+
+/// The scale of the marks.
+const SCALE: f32 = 32.0;
 
 /// The library's jobs, what each is called with, and what is timed beside it.
 const JOBS: [(&str, &[&str], &str); 10] = [
@@ -194,7 +197,12 @@ impl Inputs {
             }),
             "values-from-marks" => each(count, |i| {
                 let amplitudes = &self.amplitudes[i];
-                black_box(values_from_marks(amplitudes, &[0; 16], &mut values[..]));
+                black_box(values_from_marks(
+                    SCALE,
+                    amplitudes,
+                    &[0; 16],
+                    &mut values[..],
+                ));
                 black_box(&mut *values);
             }),
             _ => return false,
@@ -233,7 +241,8 @@ impl Inputs {
                 });
             }
             "sweep-values" => each(count, |i| {
-                **values = self.amplitudes[i].map(|amplitude| value(amplitude.to_bits()));
+                let scale = SCALE.to_bits();
+                **values = self.amplitudes[i].map(|amplitude| value(scale, amplitude.to_bits()));
                 black_box(&mut *values);
             }),
             _ => return false,

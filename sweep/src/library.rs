@@ -77,6 +77,7 @@ extern "C" {
     fn nospridda_part_length(mask: *const u8, mask_length: usize, length: usize) -> usize;
     fn nospridda_information_mask(p: usize, mask: *mut u8, mask_length: usize) -> Outcome;
     fn nospridda_values_from_marks(
+        scale: f32,
         amplitudes: *const f32,
         amplitudes_length: usize,
         blanked: *const u8,
@@ -205,10 +206,16 @@ pub fn frame_decode(
     }
 }
 
-pub fn values_from_marks(amplitudes: &[f32], blanked: &[u8], values: &mut [i8]) -> Outcome {
+pub fn values_from_marks(
+    scale: f32,
+    amplitudes: &[f32],
+    blanked: &[u8],
+    values: &mut [i8],
+) -> Outcome {
     // Safe for every input, as with kernel follow.
     unsafe {
         nospridda_values_from_marks(
+            scale,
             amplitudes.as_ptr(),
             amplitudes.len(),
             blanked.as_ptr(),

@@ -14,8 +14,11 @@ mod library;
 mod marks;
 mod paper;
 mod plain;
+mod product;
 mod random;
 mod recorded;
+mod request;
+mod scales;
 mod scores;
 mod tally;
 mod traps;
@@ -49,6 +52,7 @@ fn sweep() -> ExitCode {
     decoding::sweep(&mut tally, &all);
     plain::sweep(&mut tally, &all);
     marks::sweep(&mut tally);
+    scales::sweep(&mut tally);
     recorded::report(&mut tally);
     if tally.end() {
         ExitCode::SUCCESS

@@ -1,38 +1,18 @@
-//! Values from marks. Amplitudes are bit patterns here, and their values are found in whole numbers.
-use std::cmp::Ordering;
+//! Values from marks: every old case under the scale 32, and whole requests under all scales.
 use std::fs;
 
-use crate::frame::{bit_of, packed};
+use crate::frame::packed;
 use crate::library::Outcome;
+use crate::product::{
+    is_finite, is_scale, is_subnormal, near, value, EXACT, LARGEST, ONE, SIGN, SMALLEST, THIRTY_TWO,
+};
 use crate::random::Random;
-use crate::recorded::values_from_marks;
+use crate::request::{
+    amplitude, both_signs, compare_all, halves, in_range, not_finite, pattern, refused_scale,
+    scale, Done, Request, NOT_FINITE, SPARE,
+};
 use crate::tally::Tally;
 use crate::traps::Told;
-
-/// What an output buffer holds before a call; no amplitude gives it.
-const UNTOUCHED: i8 = -128;
-
-/// How much longer than needed it is.
-const SPARE: usize = 44;
-
-/// The pattern of 1.0.
-const ONE: u32 = 0x3f80_0000;
-
-/// Both infinities, and NaNs: quiet and signalling, of both signs, with several payloads.
-const NOT_FINITE: [u32; 12] = [
-    0x7f80_0000,
-    0xff80_0000,
-    0x7fc0_0000,
-    0xffc0_0000,
-    0x7f80_0001,
-    0xff80_0001,
-    0x7fa0_0000,
-    0xffbf_ffff,
-    0x7fc0_0001,
-    0xffd5_5555,
-    0x7fff_ffff,
-    0xffff_ffff,
-];
 
 /// What the program `mark_cases` must print.
 const MARK_CASES: &str = concat!(env!("CARGO_MANIFEST_DIR"), "/../crates/mark_cases/stdout");
@@ -41,7 +21,7 @@ pub fn sweep(tally: &mut Tally) {
     let mut random = Random::new(5);
     bench_cases(tally);
     mark_cases(tally);
-    patterns(tally, "amplitudes next to a half step", steps());
+    patterns(tally, "amplitudes next to a half step", steps(THIRTY_TWO));
     patterns(tally, "amplitudes of every exponent", exponents());
     patterns(tally, "subnormal amplitudes", subnormals());
     patterns(
@@ -49,188 +29,39 @@ pub fn sweep(tally: &mut Tally) {
         "amplitudes by a stride",
         (0..=u32::MAX).step_by(4093),
     );
-    let near: Vec<u32> = (0..400_000).map(|_| in_range(&mut random)).collect();
+    let near: Vec<u32> = (0..400_000)
+        .map(|_| in_range(&mut random, THIRTY_TWO))
+        .collect();
     patterns(tally, "random amplitudes in range", near);
     let any: Vec<u32> = (0..200_000).map(|_| pattern(&mut random)).collect();
     patterns(tally, "random amplitudes", any);
-    roundings(tally, &mut random);
     offenders(tally);
     marks(tally);
     conditions(tally);
     requests(tally, &mut random);
 }
 
-fn is_finite(pattern: u32) -> bool {
-    (pattern >> 23) & 0xff != 0xff
-}
-
-/// 32 times the size of a finite amplitude, as a fraction. A power of two beyond 2^100 is cut to that: such a fraction
-/// is far above 127 or far below a half, cut or not.
-fn fraction(pattern: u32) -> (u128, u128) {
-    let field = (pattern >> 23) & 0xff;
-    let low = pattern & 0x7f_ffff;
-    // The size is digits × 2^power / 2^149; times 32, the divisor is 2^144.
-    let (digits, power) = if field == 0 {
-        (low, 0)
-    } else {
-        (low + 0x80_0000, field - 1)
-    };
-    let above = power.saturating_sub(144).min(100);
-    let below = 144u32.saturating_sub(power).min(100);
-    (u128::from(digits) << above, 1 << below)
-}
-
-/// Whether the whole part goes up, by how the rest lies to a half.
-type Rule = fn(u128, Ordering) -> bool;
-
-/// To the nearest; a half to the even neighbour.
-fn half_to_even(whole: u128, rest: Ordering) -> bool {
-    match rest {
-        Ordering::Less => false,
-        Ordering::Equal => whole % 2 == 1,
-        Ordering::Greater => true,
-    }
-}
-
-/// A finite amplitude times 32, to a whole number by a rule, then to the range from -limit to 127.
-fn rounded(pattern: u32, rule: Rule, limit: i16) -> i16 {
-    let (above, below) = fraction(pattern);
-    let (whole, rest) = (above / below, above % below);
-    let size = whole + u128::from(rule(whole, (2 * rest).cmp(&below)));
-    let size = size.min(1000) as i16;
-    if pattern >> 31 == 1 {
-        (-size).max(-limit)
-    } else {
-        size.min(127)
-    }
-}
-
-/// The value of a finite amplitude.
-pub fn value(pattern: u32) -> i8 {
-    rounded(pattern, half_to_even, 127) as i8
-}
-
-/// One call: its outcome, and its buffer afterwards.
-type Done = (Outcome, Vec<i8>);
-
-struct Request {
-    amplitudes: Vec<u32>,
-    blanked: Vec<u8>,
-    room: usize,
-}
-
-impl Request {
-    /// All marks heard.
-    fn heard(amplitudes: &[u32]) -> Request {
-        let mut amplitudes = amplitudes.to_vec();
-        amplitudes.resize(256, 0);
-        Request {
-            amplitudes,
-            blanked: vec![0; 16],
-            room: 256 + SPARE,
-        }
-    }
-
-    fn blank(&mut self, mark: usize) {
-        self.blanked[mark / 8] |= 0x80 >> (mark % 8);
-    }
-
-    /// A mark that a mask too short does not have counts as heard.
-    fn is_heard(&self, amplitude: usize) -> bool {
-        let mark = amplitude / 2;
-        mark / 8 >= self.blanked.len() || !bit_of(&self.blanked, mark)
-    }
-
-    /// The lowest amplitude of a heard mark that is not finite.
-    fn offender(&self) -> Option<usize> {
-        (0..self.amplitudes.len()).find(|&i| self.is_heard(i) && !is_finite(self.amplitudes[i]))
-    }
-
-    /// Whether conditions 2, 5 and 7 hold.
-    fn conditions(&self) -> [bool; 3] {
-        [
-            self.amplitudes.len() != 256 || self.blanked.len() != 16,
-            self.room < 256,
-            self.offender().is_some(),
-        ]
-    }
-
-    /// What the job must leave.
-    fn settled(&self) -> Done {
-        let (number, place) = match self.conditions() {
-            [true, _, _] => (2, 0),
-            [_, true, _] => (5, 0),
-            [_, _, true] => (7, self.offender().unwrap()),
-            _ => (0, 0),
-        };
-        let mut buffer = vec![UNTOUCHED; self.room];
-        if number == 0 {
-            for (i, to) in buffer[..256].iter_mut().enumerate() {
-                *to = if self.is_heard(i) {
-                    value(self.amplitudes[i])
-                } else {
-                    0
-                };
-            }
-        }
-        (Outcome { number, place }, buffer)
-    }
-
-    fn call(&self) -> Done {
-        let amplitudes: Vec<f32> = self
-            .amplitudes
-            .iter()
-            .map(|&pattern| f32::from_bits(pattern))
-            .collect();
-        let mut buffer = vec![UNTOUCHED; self.room];
-        let outcome = values_from_marks(&amplitudes, &self.blanked, &mut buffer);
-        (outcome, buffer)
-    }
-
-    /// What the job left.
-    fn compare(&self, tally: &mut Tally, what: &str) -> Done {
-        let (want, got) = (self.settled(), self.call());
-        if want != got {
-            let place = (0..self.room).find(|&i| want.1[i] != got.1[i]);
-            let values = place.map(|i| (i, self.amplitudes.get(i), want.1[i], got.1[i]));
-            tally.wrong(format_args!(
-                "{what}, {} amplitudes, mask {:02x?}, room {}: wanted {:?}, got {:?}; \
-                 first difference (place, pattern, wanted, got): {values:x?}",
-                self.amplitudes.len(),
-                self.blanked,
-                self.room,
-                want.0,
-                got.0
-            ));
-        }
-        got
-    }
-}
-
-/// All finite ones of some patterns, 256 to a request.
+/// All finite ones of some patterns under the scale 32, where the rounding in f32 must change no value.
 fn patterns(tally: &mut Tally, name: &str, all: impl IntoIterator<Item = u32>) {
     let finite: Vec<u32> = all.into_iter().filter(|&p| is_finite(p)).collect();
-    for some in finite.chunks(256) {
-        Request::heard(some).compare(tally, name);
+    for &pattern in &finite {
+        let (rounded, exact) = (value(THIRTY_TWO, pattern), EXACT.value(THIRTY_TWO, pattern));
+        tally.expect(
+            i16::from(rounded) == exact,
+            format_args!("32 times {pattern:08x}: {rounded} rounded in f32, {exact} exact"),
+        );
     }
-    tally.group(name, finite.len() as u64);
+    let cases = compare_all(tally, name, THIRTY_TWO, &finite);
+    tally.group(name, cases);
 }
 
-/// A pattern and the one with the other sign.
-fn both_signs(pattern: u32) -> [u32; 2] {
-    [pattern, pattern ^ 0x8000_0000]
-}
-
-/// The patterns of all half steps from -130 to 130, and eight patterns on both sides of each.
-fn steps() -> Vec<u32> {
-    (0..=260u16)
-        .flat_map(|h| {
-            // A half step is a 64th, which no rounding changes.
-            let at = (f32::from(h) / 64.0).to_bits();
-            at.saturating_sub(8)..=at + 8
-        })
-        .flat_map(both_signs)
-        .collect()
+/// The amplitudes whose products are next to a half step from -130 to 130, eight patterns on both sides of each, as far
+/// as there are any.
+pub fn steps(scale: u32) -> Vec<u32> {
+    let mut sizes: Vec<u32> = (0..=260).flat_map(|h| near(scale, halves(h), 8)).collect();
+    sizes.sort_unstable();
+    sizes.dedup();
+    sizes.into_iter().flat_map(both_signs).collect()
 }
 
 /// Every exponent with mantissas of one bit, of all bits but one, and a few more.
@@ -255,59 +86,7 @@ fn subnormals() -> Vec<u32> {
         .collect()
 }
 
-/// Any pattern.
-fn pattern(random: &mut Random) -> u32 {
-    (u32::from(random.word()) << 16) | u32::from(random.word())
-}
-
-/// The pattern of an amplitude from about 2^-9 to 8, of both signs.
-fn in_range(random: &mut Random) -> u32 {
-    let field = random.between(118, 129) as u32;
-    (pattern(random) & 0x807f_ffff) | (field << 23)
-}
-
-/// The pattern of a half step or of a number next to one, of both signs.
-fn near_step(random: &mut Random) -> u32 {
-    let at = (f32::from(random.between(0, 260)) / 64.0).to_bits();
-    let near = match random.between(0, 3) {
-        0 => at + 1,
-        1 => at.saturating_sub(1),
-        _ => at,
-    };
-    both_signs(near)[random.between(0, 1) as usize]
-}
-
-/// A pattern that is not finite.
-fn not_finite(random: &mut Random) -> u32 {
-    let i = random.between(0, NOT_FINITE.len() as i16) as usize;
-    match NOT_FINITE.get(i) {
-        Some(&listed) => listed,
-        None => pattern(random) | 0x7f80_0000,
-    }
-}
-
-/// Mistaken ways to round, told from the true one by amplitudes next to a step.
-fn roundings(tally: &mut Tally, random: &mut Random) {
-    let mistakes: [(&str, Rule, i16); 4] = [
-        ("a half away from zero", |_, rest| rest.is_ge(), 127),
-        ("a half towards zero", |_, rest| rest.is_gt(), 127),
-        ("a rest dropped", |_, _| false, 127),
-        ("the range from -128", half_to_even, 128),
-    ];
-    let mut told = [Told::default(); 4];
-    for _ in 0..20_000 {
-        let pattern = near_step(random);
-        let truth = i16::from(value(pattern));
-        for ((_, rule, limit), told) in mistakes.iter().zip(&mut told) {
-            told.case(rounded(pattern, *rule, *limit) != truth);
-        }
-    }
-    for ((name, ..), told) in mistakes.iter().zip(&told) {
-        told.report(tally, name);
-    }
-}
-
-/// The paper's bench cases of amplitudes.
+/// The paper's bench cases of amplitudes, under the scale 32.
 fn bench_cases(tally: &mut Tally) {
     let cases = [
         (ONE, 32),
@@ -316,12 +95,13 @@ fn bench_cases(tally: &mut Tally) {
         (0x407e_0000, 127),
         (0x4080_0000, 127),
         (0xc080_0000, -127),
-        (0x8000_0000, 0),
+        (SIGN, 0),
     ];
     for (pattern, want) in cases {
-        let (outcome, buffer) = Request::heard(&[pattern]).compare(tally, "a bench case");
+        let request = Request::heard(THIRTY_TWO, &[pattern]);
+        let (outcome, buffer) = request.compare(tally, "a bench case");
         tally.expect(
-            outcome.number == 0 && buffer[0] == want && value(pattern) == want,
+            outcome.number == 0 && buffer[0] == want && value(THIRTY_TWO, pattern) == want,
             format_args!("amplitude {pattern:08x}: wanted {want}, got {}", buffer[0]),
         );
     }
@@ -329,6 +109,7 @@ fn bench_cases(tally: &mut Tally) {
 }
 
 /// The values that the program `mark_cases` prints for an amplitude as Q of mark 0 and I of mark 127, all others 1.0.
+/// Its lines begin with "amplitude X:" for the scale 32, and with "scale S, amplitude X:" for others.
 fn mark_cases(tally: &mut Tally) {
     let text = match fs::read_to_string(MARK_CASES) {
         Ok(text) => text,
@@ -337,41 +118,52 @@ fn mark_cases(tally: &mut Tally) {
             return;
         }
     };
-    let mut lines = 0;
+    let (mut old, mut scaled) = (0, 0);
     for line in text.lines() {
-        if let Some(rest) = line.strip_prefix("amplitude ") {
-            mark_line(tally, line, rest.split(':').next().unwrap_or(""));
-            lines += 1;
+        let head = line.split(':').next().unwrap_or("");
+        let named = head.strip_prefix("scale ");
+        if let Some(name) = head.strip_prefix("amplitude ") {
+            mark_line(tally, line, head, ("32.0", name));
+            old += 1;
+        } else if let Some(names) = named.and_then(|names| names.split_once(", amplitude ")) {
+            mark_line(tally, line, head, names);
+            scaled += 1;
         }
     }
     tally.expect(
-        lines == 17,
-        format_args!("mark_cases prints {lines} amplitudes"),
+        old == 17 && scaled >= 20,
+        format_args!("mark_cases prints {old} amplitudes, and {scaled} with a scale"),
     );
-    tally.group("lines of mark_cases", lines);
+    tally.group("lines of mark_cases", old);
+    tally.group("lines of mark_cases with a scale", scaled);
 }
 
-/// A line of an amplitude that is finite.
-fn mark_line(tally: &mut Tally, line: &str, name: &str) {
-    let pattern = match name {
-        "largest" => 0x7f7f_ffff,
-        "-largest" => 0xff7f_ffff,
-        "smallest" => 1,
-        "-smallest" => 0x8000_0001,
-        _ => name.parse().map_or(NOT_FINITE[0], f32::to_bits),
-    };
-    tally.expect(
-        is_finite(pattern),
-        format_args!("mark_cases prints the amplitude {name}"),
-    );
-    let (it, others) = (value(pattern), value(ONE));
-    let want = format!(
-        "amplitude {name}: 0 0, values {others} {it} {others} {others} {it} {others}, kept"
-    );
+/// A line of a scale above zero and an amplitude, both finite.
+fn mark_line(tally: &mut Tally, line: &str, head: &str, (scale, amplitude): (&str, &str)) {
+    let (scale, amplitude) = (named(scale), named(amplitude));
+    if !is_scale(scale) || !is_finite(amplitude) {
+        tally.wrong(format_args!(
+            "mark_cases prints no scale or amplitude: {line}"
+        ));
+        return;
+    }
+    let (it, others) = (value(scale, amplitude), value(scale, ONE));
+    let want = format!("{head}: 0 0, values {others} {it} {others} {others} {it} {others}, kept");
     tally.expect(
         line == want,
         format_args!("mark_cases prints {line}, not {want}"),
     );
+}
+
+/// The pattern of a number by the name that `mark_cases` gives it; one that is not finite where it is no number.
+fn named(name: &str) -> u32 {
+    match name {
+        "largest" => LARGEST,
+        "-largest" => LARGEST | SIGN,
+        "smallest" => SMALLEST,
+        "-smallest" => SMALLEST | SIGN,
+        _ => name.parse().map_or(NOT_FINITE[0], f32::to_bits),
+    }
 }
 
 /// A pattern that is not finite at every place, heard and blanked, and with a second one above it.
@@ -379,7 +171,7 @@ fn offenders(tally: &mut Tally) {
     let mut cases = 0;
     for pattern in NOT_FINITE {
         for place in 0..256 {
-            let mut request = Request::heard(&[ONE; 256]);
+            let mut request = Request::heard(THIRTY_TWO, &[ONE; 256]);
             request.amplitudes[place] = pattern;
             let (outcome, _) = request.compare(tally, "one offender");
             let want = Outcome { number: 7, place };
@@ -404,15 +196,16 @@ fn offenders(tally: &mut Tally) {
 /// Every mark blanked alone, and heard alone among marks that are not finite.
 fn marks(tally: &mut Tally) {
     for mark in 0..128 {
-        let mut request = Request::heard(&[ONE; 256]);
+        let mut request = Request::heard(THIRTY_TWO, &[ONE; 256]);
         request.blank(mark);
         request.compare(tally, "one mark blanked");
-        let mut request = Request::heard(&[NOT_FINITE[mark % NOT_FINITE.len()]; 256]);
+        let offender = NOT_FINITE[mark % NOT_FINITE.len()];
+        let mut request = Request::heard(THIRTY_TWO, &[offender; 256]);
         for other in (0..128).filter(|&other| other != mark) {
             request.blank(other);
         }
         request.amplitudes[2 * mark] = ONE;
-        request.amplitudes[2 * mark + 1] = ONE ^ 0x8000_0000;
+        request.amplitudes[2 * mark + 1] = ONE | SIGN;
         let (outcome, buffer) = request.compare(tally, "one mark heard");
         tally.expect(
             outcome.number == 0 && buffer[2 * mark..2 * mark + 2] == [32, -32],
@@ -422,41 +215,54 @@ fn marks(tally: &mut Tally) {
     tally.group("single marks", 256);
 }
 
-/// Every combination of lengths with offenders: none, in a blanked mark, in a heard one, in two.
+/// Every combination of lengths with scales and with offenders: none, in a blanked mark, in a heard one, in two.
 fn conditions(tally: &mut Tally) {
+    let minus_one = ONE | SIGN;
+    let [infinity, _, nan, ..] = NOT_FINITE;
+    let scales = [THIRTY_TWO, SMALLEST, 0, minus_one, infinity, nan];
     let mut cases = 0;
     for count in [0, 1, 255, 256, 257, 512] {
         for length in [0, 1, 15, 16, 17, 32] {
             for room in [0, 1, 255, 256, 257, 300] {
-                for offenders in [&[][..], &[0], &[100], &[255, 31]] {
-                    let mut request = Request {
-                        amplitudes: vec![ONE; count],
-                        blanked: vec![0; length],
-                        room,
-                    };
-                    if length > 0 {
-                        request.blank(0);
+                for scale in scales {
+                    for offenders in [&[][..], &[0], &[100], &[255, 31]] {
+                        let mut request = Request {
+                            scale,
+                            amplitudes: vec![ONE; count],
+                            blanked: vec![0; length],
+                            room,
+                        };
+                        put_offenders(&mut request, offenders, cases);
+                        request.compare(tally, "lengths, scales and offenders");
+                        cases += 1;
                     }
-                    for &place in offenders {
-                        if place < count {
-                            request.amplitudes[place] = NOT_FINITE[cases % NOT_FINITE.len()];
-                        }
-                    }
-                    request.compare(tally, "lengths and offenders");
-                    cases += 1;
                 }
             }
         }
     }
-    tally.group("lengths and offenders", cases as u64);
+    tally.group("lengths, scales and offenders", cases as u64);
 }
 
-/// A request with any mask; blanked marks hold anything, heard ones up to two offenders.
+/// Blanks mark 0, and puts one of the patterns at some places; as far as the request has them.
+fn put_offenders(request: &mut Request, places: &[usize], which: usize) {
+    if !request.blanked.is_empty() {
+        request.blank(0);
+    }
+    for &place in places {
+        if let Some(at) = request.amplitudes.get_mut(place) {
+            *at = NOT_FINITE[which % NOT_FINITE.len()];
+        }
+    }
+}
+
+/// A request with any scale and any mask; blanked marks hold anything, heard ones up to two offenders.
 fn request(random: &mut Random) -> Request {
     let one_in = random.between(1, 9);
     let blanked: [bool; 128] = std::array::from_fn(|_| random.once_in(one_in));
+    let scale = scale(random);
     let mut request = Request {
-        amplitudes: (0..256).map(|_| amplitude(random)).collect(),
+        scale,
+        amplitudes: (0..256).map(|_| amplitude(random, scale)).collect(),
         blanked: packed(&blanked),
         room: 256 + SPARE,
     };
@@ -476,17 +282,7 @@ fn request(random: &mut Random) -> Request {
     request
 }
 
-/// A finite amplitude: next to a half step, with any even exponent, subnormal, or in range.
-fn amplitude(random: &mut Random) -> u32 {
-    match random.between(0, 7) {
-        0 => near_step(random),
-        1 => pattern(random) & 0xff7f_ffff,
-        2 => pattern(random) & 0x807f_ffff,
-        _ => in_range(random),
-    }
-}
-
-/// Each length is spoiled now and then.
+/// Each length and the scale are spoiled now and then.
 fn spoil(random: &mut Random, request: &mut Request) {
     if random.once_in(8) {
         let count = [0, 255, 257][random.between(0, 2) as usize];
@@ -499,44 +295,91 @@ fn spoil(random: &mut Random, request: &mut Request) {
     if random.once_in(3) {
         request.room = [0, 255, 256, 300][random.between(0, 3) as usize];
     }
+    if random.once_in(5) {
+        request.scale = refused_scale(random);
+    }
+}
+
+/// Mistaken ways to read a request.
+#[derive(Default)]
+struct Misread {
+    bits_turned: Told,
+    exchanged: Told,
+    looked_at: Told,
+    subnormal: Told,
+    seven_first: Told,
+    all_blanked: Told,
+}
+
+impl Misread {
+    /// A request and what the job left.
+    fn watch(&mut self, request: &Request, done: &Done) {
+        match request.conditions() {
+            [false, false, false, false] => self.watch_accepted(request, done),
+            [false, false, true, seven] => {
+                self.seven_first.case(seven);
+                self.all_blanked
+                    .case((0..256).all(|i| !request.is_heard(i)));
+            }
+            _ => {}
+        }
+    }
+
+    fn watch_accepted(&mut self, request: &Request, done: &Done) {
+        let mut turned = request.clone();
+        turned
+            .blanked
+            .iter_mut()
+            .for_each(|byte| *byte = byte.reverse_bits());
+        let (_, buffer) = done;
+        self.bits_turned.case(turned.settled() != *done);
+        self.exchanged
+            .case((0..256).any(|i| buffer[i] != buffer[i ^ 1]));
+        self.looked_at
+            .case(!request.amplitudes.iter().all(|&p| is_finite(p)));
+        self.subnormal.case(is_subnormal(request.scale));
+    }
+
+    fn report(&self, tally: &mut Tally) {
+        self.bits_turned
+            .report(tally, "mark 0 in the least significant bit");
+        self.exchanged.report(tally, "I and Q exchanged");
+        self.looked_at
+            .report(tally, "a blanked amplitude looked at");
+        self.subnormal.report(tally, "a subnormal scale refused");
+        self.seven_first.report(tally, "7 checked before 10");
+        self.all_blanked
+            .report(tally, "no look at the scale where all is blanked");
+    }
 }
 
 /// Whole requests, and mistaken ways to read them.
 fn requests(tally: &mut Tally, random: &mut Random) {
     let turns = 20_000;
-    let mut met = [0u64; 10];
-    let mut at_once = [0u64; 8];
-    let (mut bits_turned, mut exchanged, mut looked_at) =
-        (Told::default(), Told::default(), Told::default());
+    let mut met = [0u64; 11];
+    let mut at_once = [0u64; 16];
+    let mut misread = Misread::default();
     for _ in 0..turns {
         let mut request = request(random);
         spoil(random, &mut request);
-        let (outcome, buffer) = request.compare(tally, "a request");
-        met[outcome.number as usize % 10] += 1;
-        let [two, five, seven] = request.conditions().map(usize::from);
-        at_once[4 * two + 2 * five + seven] += 1;
-        if [two, five, seven] == [0, 0, 0] {
-            let turned = Request {
-                amplitudes: request.amplitudes.clone(),
-                blanked: request.blanked.iter().map(|b| b.reverse_bits()).collect(),
-                room: request.room,
-            };
-            bits_turned.case(turned.settled() != (outcome, buffer.clone()));
-            exchanged.case((0..256).any(|i| buffer[i] != buffer[i ^ 1]));
-            looked_at.case(!request.amplitudes.iter().all(|&p| is_finite(p)));
+        let done = request.compare(tally, "a request");
+        // A number above 10 is wrong, and `compare` has said so.
+        if let Some(count) = met.get_mut(done.0.number as usize) {
+            *count += 1;
         }
+        let [two, five, ten, seven] = request.conditions().map(usize::from);
+        at_once[8 * two + 4 * five + 2 * ten + seven] += 1;
+        misread.watch(&request, &done);
     }
     tally.group("requests of values from marks", turns);
     tally.line(format_args!("of them, by the number answered: {met:?}"), 0);
     tally.line(
-        format_args!("of them, by conditions 2, 5 and 7 as three bits: {at_once:?}"),
+        format_args!("of them, by conditions 2, 5, 10 and 7 as four bits: {at_once:?}"),
         0,
     );
     tally.expect(
-        at_once.iter().all(|&n| n > 0) && [0, 2, 5, 7].iter().all(|&n| met[n] > 0),
+        at_once.iter().all(|&n| n > 0) && [0, 2, 5, 7, 10].iter().all(|&n| met[n] > 0),
         format_args!("not every condition was met: {met:?}, {at_once:?}"),
     );
-    bits_turned.report(tally, "mark 0 in the least significant bit");
-    exchanged.report(tally, "I and Q exchanged");
-    looked_at.report(tally, "a blanked amplitude looked at");
+    misread.report(tally);
 }

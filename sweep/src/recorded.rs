@@ -41,15 +41,15 @@ const JOBS: [Job; 10] = [
     job("frame decode", "frame_decode", &[0, 1, 2, 3, 5, 6]),
     job("payload part", "part_length", &[]),
     job("information mask", "information_mask", &[0, 5, 8]),
-    job("values from marks", "values_from_marks", &[0, 2, 5, 7]),
+    job("values from marks", "values_from_marks", &[0, 2, 5, 7, 10]),
 ];
 
 /// The calls of one job.
 #[derive(Clone, Copy)]
 struct Calls {
-    /// By the number answered, 0 to 9.
-    by_number: [u64; 10],
-    /// With a number above 9.
+    /// By the number answered, 0 to 10.
+    by_number: [u64; 11],
+    /// With a number above 10.
     above: u64,
     /// After which an input or a border was changed.
     strayed: u64,
@@ -57,7 +57,7 @@ struct Calls {
 
 static RECORD: Mutex<[Calls; JOBS.len()]> = Mutex::new(
     [Calls {
-        by_number: [0; 10],
+        by_number: [0; 11],
         above: 0,
         strayed: 0,
     }; JOBS.len()],
@@ -78,7 +78,7 @@ fn record(function: &str, number: u32, kept: bool) {
 pub fn report(tally: &mut Tally) {
     tally.line(format_args!("calls by the number answered:"), 0);
     for (job, calls) in JOBS.iter().zip(RECORD.lock().unwrap().iter()) {
-        let met: Vec<u32> = (0..10)
+        let met: Vec<u32> = (0..=10)
             .filter(|&n| calls.by_number[n as usize] > 0)
             .collect();
         let counts: Vec<String> = met
@@ -94,7 +94,7 @@ pub fn report(tally: &mut Tally) {
         tally.expect(
             met == can && calls.above == 0,
             format_args!(
-                "{} can answer {can:?}; it answered {met:?}, and {} calls a number above 9",
+                "{} can answer {can:?}; it answered {met:?}, and {} calls a number above 10",
                 job.name, calls.above
             ),
         );
@@ -314,10 +314,15 @@ pub fn information_mask(p: usize, mask: &mut [u8]) -> Outcome {
     outcome
 }
 
-pub fn values_from_marks(amplitudes: &[f32], blanked: &[u8], values: &mut [i8]) -> Outcome {
+pub fn values_from_marks(
+    scale: f32,
+    amplitudes: &[f32],
+    blanked: &[u8],
+    values: &mut [i8],
+) -> Outcome {
     let (mut x, mut b) = (Bordered::new(amplitudes), Bordered::new(blanked));
     let mut out = Bordered::new(values);
-    let outcome = library::values_from_marks(x.buffer(), b.buffer(), out.buffer());
+    let outcome = library::values_from_marks(scale, x.buffer(), b.buffer(), out.buffer());
     let kept = [x.holds(amplitudes), b.holds(blanked), out.hand_over(values)];
     record("values_from_marks", outcome.number, kept == [true; 3]);
     outcome

@@ -4,7 +4,7 @@ use mathlib.Core.List.{List, [], _∷_, _++_}
 use Prim.Native.Nat.{ℕ}
 use lib.ListN.{length, drop}
 use Rattle.answer.specs.declared.Answer.{Answer}
-use Rattle.answer.specs.declared.Answer.the-variants.{Done, Word, NoKernel, WrongLength, BadMask, WrongPayload, ShortOutput, ValueOutOfRange, NotFinite, WrongSize, FrozenOne}
+use Rattle.answer.specs.declared.Answer.the-variants.{Done, Word, NoKernel, WrongLength, BadMask, WrongPayload, ShortOutput, ValueOutOfRange, NotFinite, WrongSize, FrozenOne, BadScale}
 
 -- Accepted and done, accepted with a word, or refused with the number and the place of a condition.
 pub data Verdict : Type 0 where
@@ -25,6 +25,7 @@ verdict (ValueOutOfRange i) = refused 6 i
 verdict (NotFinite i) = refused 7 i
 verdict WrongSize = refused 8 0
 verdict (FrozenOne i) = refused 9 i
+verdict BadScale = refused 10 0
 
 -- Its number, 0 if accepted.
 abbrev pub numberOf : Verdict → ℕ

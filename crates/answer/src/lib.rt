@@ -15,6 +15,7 @@ pub enum Answer {
     NotFinite(usize),
     WrongSize,
     FrozenOne(usize),
+    BadScale,
 }
 
 // The number of the condition that refused, 0 if accepted.
@@ -33,6 +34,7 @@ pub fn number(a: Answer) -> u8
         Answer::NotFinite(_) => 7,
         Answer::WrongSize => 8,
         Answer::FrozenOne(_) => 9,
+        Answer::BadScale => 10,
     }
 }
 
@@ -59,6 +61,7 @@ pub fn place(a: Answer) -> usize
         Answer::NotFinite(i) => i,
         Answer::WrongSize => 0,
         Answer::FrozenOne(i) => i,
+        Answer::BadScale => 0,
     }
 }
 
@@ -78,5 +81,6 @@ pub fn word(a: Answer) -> u16
         Answer::NotFinite(_) => 0,
         Answer::WrongSize => 0,
         Answer::FrozenOne(_) => 0,
+        Answer::BadScale => 0,
     }
 }

@@ -6,7 +6,7 @@ use Prim.Native.Nat.{ℕ}
 use native.Mathlib.Omega.{arith}
 use borrow.Author.Tests.{eqb-true}
 use lib.Dec.{eqb}
-use lib.Ieee.{fin, binary32, fits}
+use lib.Ieee.{binary32, mul, round, fits}
 use lib.IntN.{ℤ, pos, negsuc}
 use lib.ListN.{length, getD, set, replicate}
 use Rattle.base.specs.Bit.{tabulate, parity, every}
@@ -33,7 +33,7 @@ use Rattle.follow.specs.Jobs.{kernelFollowChecks, kernelFollow}
 use Rattle.quantiser.specs.Marks.{valueAt, notFinite, firstNotFinite, lowest}
 use Rattle.quantiser.specs.Jobs.{marksChecks}
 use Rattle.quantiser.proofs.Accepted as Quantised
-use Rattle.rounding.specs.Rounding.{rounded}
+use Rattle.rounding.specs.Rounding.{rounded, nearestLimited}
 use Rattle.follow.proofs.Accepted.{accepted, accepted-job}
 use Rattle.cases.proofs.Computed.{pathBy, leastBy, scoresBy, scores-by}
 use Rattle.cases.specs.Cases.{Case, encoding, following, followingLast, valueRefused, masking, sizeRefused, quantising, Holds, starred, AllHold}
@@ -92,11 +92,12 @@ test (followingLast k value score) =
 test (valueRefused k i value n) = isRefusal n i (settle (kernelFollowChecks k (set (replicate 16 (pos 0)) i value) 16) done)
 test (masking p phases) = isAccepted (settle (informationChecks p 32) done) && sameList eqb (markedPhases (informationBits p)) phases
 test (sizeRefused p n) = isRefusal n 0 (settle (informationChecks p 32) done)
-test (quantising minus m e value) =
-    let xs = replicate 256 (fin minus m e) in
-    fits binary32 (fin minus m e)
-    && isAccepted (settle (marksChecks xs (replicate 16 0) 256) done)
-    && sameList sameScore (tabulate 256 (valueAt xs (replicate 16 0))) (replicate 256 value)
+test (quantising scale x value) =
+    let xs = replicate 256 x in
+    fits binary32 scale
+    && fits binary32 x
+    && isAccepted (settle (marksChecks scale xs (replicate 16 0) 256) done)
+    && sameList sameScore (tabulate 256 (valueAt scale xs (replicate 16 0))) (replicate 256 value)
 
 -- Where kernel follow accepts sixteen equal values, it leaves the scores as computed.
 followed : (k : ℕ) (value : ℤ) → isAccepted (settle (kernelFollowChecks k (replicate 16 value) 16) done) ≡ true
@@ -145,13 +146,14 @@ shown (masking p phases) t =
     ap unpack (append-nil (pack 32 (informationBits p))) ∙ unpack-pack 32 (informationBits p) (Accepted.length-information p) in
     (ap (λ r. r .0) job, ap (λ r. markedPhases (unpack (r .1))) job ∙ ap markedPhases back ∙ list-eq eqb eqb-true _ phases (h .1))
 shown (sizeRefused p n) t = λ out e. size-refused p n t out e
-shown (quantising minus m e value) t =
-    let x = fin minus m e in
+shown (quantising scale x value) t =
     let xs = replicate 256 x in
-    let h = (and-eq-true-iff (fits binary32 x && isAccepted (settle (marksChecks xs (replicate 16 0) 256) done)) _) .0 t in
-    let g = (and-eq-true-iff (fits binary32 x) _) .0 (h .0) in
-    let job = Quantised.accepted-job xs (replicate 16 0) (replicate 256 (pos 0)) (g .1) in
-    (g .0, job ∙ ap (λ (l : List ℤ). (done, l)) (append-nil (tabulate 256 (valueAt xs (replicate 16 0))) ∙ list-eq sameScore score-eq _ (replicate 256 value) (h .1)))
+    let f = fits binary32 scale && fits binary32 x in
+    let h = (and-eq-true-iff (f && isAccepted (settle (marksChecks scale xs (replicate 16 0) 256) done)) _) .0 t in
+    let g = (and-eq-true-iff f _) .0 (h .0) in
+    let both = (and-eq-true-iff (fits binary32 scale) _) .0 (g .0) in
+    let job = Quantised.accepted-job scale xs (replicate 16 0) (replicate 256 (pos 0)) (g .1) in
+    (both .0, both .1, job ∙ ap (λ (l : List ℤ). (done, l)) (append-nil (tabulate 256 (valueAt scale xs (replicate 16 0))) ∙ list-eq sameScore score-eq _ (replicate 256 value) (h .1)))
 
 unfoldable tests : List Case → Bool
 tests [] = true
@@ -165,5 +167,5 @@ all-shown (c ∷ cs) t =
     (shown c (h .0), all-shown cs (h .1))
 
 pub starred-hold : AllHold starred
-unfolding tests test isRefusal isKernel chosenSum bits number tabulate parity sameScore sameList kernelFollowChecks firstOutside scoresBy leastBy pathBy leastTo windows solutions symbols sumOf folded blocks arikan every informationChecks informationBits markedPhases among order unpack marksChecks firstNotFinite notFinite lowest valueAt rounded fits
+unfolding tests test isRefusal isKernel chosenSum bits number tabulate parity sameScore sameList kernelFollowChecks firstOutside scoresBy leastBy pathBy leastTo windows solutions symbols sumOf folded blocks arikan every informationChecks informationBits markedPhases among order unpack marksChecks firstNotFinite notFinite lowest valueAt nearestLimited mul round rounded fits
 starred-hold = all-shown starred refl

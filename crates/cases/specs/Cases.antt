@@ -2,8 +2,8 @@
 use mathlib.Core.Path.{_≡_}
 use mathlib.Core.List.{List, [], _∷_, _++_, map}
 use Prim.Native.Nat.{ℕ}
-use mathlib.Core.Bool.{Bool, true, false}
-use lib.Ieee.{fin, binary32, fits}
+use mathlib.Core.Bool.{true, false}
+use lib.Ieee.{Float, fin, binary32, fits}
 use lib.IntN.{ℤ, pos, negsuc}
 use lib.ListN.{length, getD, set, replicate}
 use Rattle.base.specs.Bit.{tabulate}
@@ -15,6 +15,7 @@ use Rattle.kernel.specs.Distances.{distanceTable}
 use Rattle.order.specs.Order.{markedPhases}
 use Rattle.order.specs.Jobs.{informationMask}
 use Rattle.follow.specs.Jobs.{kernelFollow}
+use Rattle.rounding.specs.Base.{thirtyTwo}
 use Rattle.quantiser.specs.Jobs.{valuesFromMarks}
 
 -- A case of the table.
@@ -31,8 +32,8 @@ pub data Case : Type 0 where
   masking : (p : ℕ) (phases : List ℕ) → Case
   -- Information mask for p bytes: refused by condition n.
   sizeRefused : (p n : ℕ) → Case
-  -- All 256 amplitudes the same, no mark blanked: all 256 values the same. The amplitude is m * 2 ^ e, or minus that.
-  quantising : (minus : Bool) (m : ℕ) (e : ℤ) (value : ℤ) → Case
+  -- A scale, all 256 amplitudes the same, no mark blanked: all 256 values the same. `fin minus m e` is m * 2 ^ e, or minus that.
+  quantising : (scale amplitude : Float) (value : ℤ) → Case
 
 -- What a case says. A refused request leaves every buffer as it was.
 abbrev pub Holds : Case → Type 0
@@ -47,16 +48,17 @@ Holds (masking p phases) =
     let r = informationMask p (replicate 32 0) in
     (r .0 ≡ done) × (markedPhases (unpack (r .1)) ≡ phases)
 Holds (sizeRefused p n) = (out : List ℕ) → length out ≡ 32 → informationMask p out ≡ (refused n 0, out)
-Holds (quantising minus m e value) =
-    let x = fin minus m e in
-    (fits binary32 x ≡ true) × (valuesFromMarks (replicate 256 x) (replicate 16 0) (replicate 256 (pos 0)) ≡ (done, replicate 256 value))
+Holds (quantising scale x value) =
+    (fits binary32 scale ≡ true)
+    × (fits binary32 x ≡ true)
+    × (valuesFromMarks scale (replicate 256 x) (replicate 16 0) (replicate 256 (pos 0)) ≡ (done, replicate 256 value))
 
 -- 2048 at each of the sixteen places.
 abbrev pub outside : ℕ → List Case
 outside k = tabulate 16 (λ i. valueRefused k i (pos 2048) 6)
 
 -- The table: every case of every bullet of the paper that has a star. Where all values are 1, the scores are the partial distances.
--- The amplitudes are 1.0, 0.015625, 0.046875, 3.96875, 4.0, -4.0 and minus zero.
+-- The amplitudes are 1.0, 0.015625, 0.046875, 3.96875, 4.0, -4.0 and minus zero, with scale 32.0.
 abbrev pub starred : List Case
 starred =
     encoding 1 9 0xa6c0
@@ -76,13 +78,13 @@ starred =
     ∷ masking 1 (191 ∷ 223 ∷ 239 ∷ 250 ∷ 251 ∷ 253 ∷ 254 ∷ 255 ∷ [])
     ∷ sizeRefused 0 8
     ∷ sizeRefused 33 8
-    ∷ quantising false 1 (pos 0) (pos 32)
-    ∷ quantising false 1 (negsuc 5) (pos 0)
-    ∷ quantising false 3 (negsuc 5) (pos 2)
-    ∷ quantising false 127 (negsuc 4) (pos 127)
-    ∷ quantising false 1 (pos 2) (pos 127)
-    ∷ quantising true 1 (pos 2) (negsuc 126)
-    ∷ quantising true 0 (pos 0) (pos 0)
+    ∷ quantising thirtyTwo (fin false 1 (pos 0)) (pos 32)
+    ∷ quantising thirtyTwo (fin false 1 (negsuc 5)) (pos 0)
+    ∷ quantising thirtyTwo (fin false 3 (negsuc 5)) (pos 2)
+    ∷ quantising thirtyTwo (fin false 127 (negsuc 4)) (pos 127)
+    ∷ quantising thirtyTwo (fin false 1 (pos 2)) (pos 127)
+    ∷ quantising thirtyTwo (fin true 1 (pos 2)) (negsuc 126)
+    ∷ quantising thirtyTwo (fin true 0 (pos 0)) (pos 0)
     ∷ outside 0 ++ outside 1 ++ outside 2
 
 -- Every case of a table holds.

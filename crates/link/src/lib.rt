@@ -158,15 +158,16 @@ pub extern "C" fn nospridda_frame_decode(
     outcome_of(a)
 }
 
-// Values from marks: the channel values of the amplitudes of 128 marks.
+// Values from marks: the channel values of the amplitudes of 128 marks, under a scale.
 #[no_mangle]
 pub extern "C" fn nospridda_values_from_marks(
+    scale: f32,
     amplitudes: &[f32],
     blanked: &[u8],
     values: &mut [i8],
 ) -> Outcome
-    ensures { λ r. ⌜ outcomeWith (valuesFromMarks (now (amplitudes .entry)) (now (blanked .entry)) (now (values .entry))) ≡ (r, now (values .exit)) ⌝ }
+    ensures { λ r. ⌜ outcomeWith (valuesFromMarks scale (now (amplitudes .entry)) (now (blanked .entry)) (now (values .entry))) ≡ (r, now (values .exit)) ⌝ }
 {
-    let a = quantiser::values_from_marks(amplitudes, blanked, values);
+    let a = quantiser::values_from_marks(scale, amplitudes, blanked, values);
     outcome_of(a)
 }

@@ -1,6 +1,6 @@
-// Values from marks at its edges: the ends of the range, halves, amplitudes that are not finite, every refusal and which
-// of two comes first, the places that are named, and what lies past the written part. Buffers hold -128 before a job,
-// which is never a value.
+// Values from marks at its edges: the ends of the range, halves, scales and products of all sizes, amplitudes that are
+// not finite, every refusal and which of two comes first, the places that are named, and what lies past the written
+// part. Buffers hold -128 before a job, which is never a value.
 ghost use Prim.Native.Nat.{_<_};
 use answer::Answer;
 use libc::STDOUT_FILENO;
@@ -11,7 +11,13 @@ const FIRST: [u8; 16] = [0x80, 0, 0, 0, 0, 0, 0, 0, 0, 0, 0, 0, 0, 0, 0, 0];
 // Only mark 127 is blanked.
 const LAST: [u8; 16] = [0, 0, 0, 0, 0, 0, 0, 0, 0, 0, 0, 0, 0, 0, 0, 1];
 
-// The largest finite amplitude, and the smallest above zero, which is subnormal.
+// The scale of the cases that name none.
+const SCALE: f32 = 32.0;
+
+// 2^100.
+const TWO_TO_100: f32 = 1267650600228229401496703205376.0;
+
+// The largest finite number, and the smallest above zero, which is subnormal.
 const LARGEST: f32 = 340282346638528859811704183484516925440.0;
 
 const SMALLEST: f32 = 1e-45;
@@ -53,9 +59,9 @@ fn say_values(values: [i8; 300]) {
 
 // Into a buffer of 300: the answer; accepted some values, and whether what lies past the last stays; refused whether
 // the buffer was kept.
-fn quantise(label: &[u8], amplitudes: &[f32], blanked: &[u8]) {
+fn quantise(label: &[u8], scale: f32, amplitudes: &[f32], blanked: &[u8]) {
     let mut values = [-128i8; 300];
-    let a = quantiser::values_from_marks(amplitudes, blanked, &mut values);
+    let a = quantiser::values_from_marks(scale, amplitudes, blanked, &mut values);
     report::say_answer(label, a);
     if answer::accepted(a) {
         say_values(values);
@@ -66,9 +72,9 @@ fn quantise(label: &[u8], amplitudes: &[f32], blanked: &[u8]) {
 }
 
 // Into a buffer of 256: the answer, and the first and the last value.
-fn quantise_exactly(label: &[u8], amplitudes: &[f32], blanked: &[u8]) {
+fn quantise_exactly(label: &[u8], scale: f32, amplitudes: &[f32], blanked: &[u8]) {
     let mut values = [-128i8; 256];
-    let a = quantiser::values_from_marks(amplitudes, blanked, &mut values);
+    let a = quantiser::values_from_marks(scale, amplitudes, blanked, &mut values);
     report::say_answer(label, a);
     io::write_all(STDOUT_FILENO, b", values");
     say_value(values[0]);
@@ -77,9 +83,9 @@ fn quantise_exactly(label: &[u8], amplitudes: &[f32], blanked: &[u8]) {
 }
 
 // Into a buffer of 255.
-fn quantise_short(label: &[u8], amplitudes: &[f32], blanked: &[u8]) {
+fn quantise_short(label: &[u8], scale: f32, amplitudes: &[f32], blanked: &[u8]) {
     let mut values = [-128i8; 255];
-    let a = quantiser::values_from_marks(amplitudes, blanked, &mut values);
+    let a = quantiser::values_from_marks(scale, amplitudes, blanked, &mut values);
     report::say_answer(label, a);
     report::say_kept(values_kept(&values, 0));
 }
@@ -95,10 +101,15 @@ fn with_two(x: f32, first: usize, y: f32, second: usize) -> [f32; 256]
 }
 
 // An amplitude as Q of mark 0 and I of mark 127; all others are 1.0.
-fn one(label: &[u8], x: f32) {
+fn scaled(label: &[u8], scale: f32, x: f32) {
     let amplitudes = with_two(x, 1, x, 254);
     let none = [0u8; 16];
-    quantise(label, &amplitudes, &none);
+    quantise(label, scale, &amplitudes, &none);
+}
+
+// The same with scale 32.
+fn one(label: &[u8], x: f32) {
+    scaled(label, SCALE, x);
 }
 
 fn bench_cases() {
@@ -128,101 +139,199 @@ fn far_ends() {
     one(b"amplitude -smallest", -SMALLEST);
 }
 
+// Halves of other scales.
+fn scaled_halves() {
+    scaled(b"scale 1, amplitude 0.5", 1.0, 0.5);
+    scaled(b"scale 1, amplitude -1.5", 1.0, -1.5);
+    scaled(b"scale 1, amplitude 126.5", 1.0, 126.5);
+    scaled(b"scale 1, amplitude -127.5", 1.0, -127.5);
+    scaled(b"scale 32, amplitude 0.078125", 32.0, 0.078125);
+    scaled(b"scale 127, amplitude 0.5", 127.0, 0.5);
+    scaled(b"scale 127, amplitude -1.5", 127.0, -1.5);
+    scaled(
+        b"scale 1267650600228229401496703205376, amplitude 3.9443045e-31",
+        TWO_TO_100,
+        3.9443045e-31,
+    );
+    scaled(
+        b"scale 1267650600228229401496703205376, amplitude 1.1832914e-30",
+        TWO_TO_100,
+        1.1832914e-30,
+    );
+}
+
+// The product rounded in f32 is a half, and the exact one lies next to it: the even neighbour is not always the nearest
+// to the exact one.
+fn rounded_halves() {
+    scaled(b"scale 0.33333334, amplitude 1.5", 0.33333334, 1.5);
+    scaled(b"scale 0.33333334, amplitude 4.5", 0.33333334, 4.5);
+    scaled(b"scale 0.33333334, amplitude -7.5", 0.33333334, -7.5);
+    scaled(b"scale 31.999998, amplitude 0.015625", 31.999998, 0.015625);
+    scaled(
+        b"scale 31.999998, amplitude 0.015625002",
+        31.999998,
+        0.015625002,
+    );
+    scaled(
+        b"scale 31.999998, amplitude -0.015625002",
+        31.999998,
+        -0.015625002,
+    );
+}
+
+// Products at the largest number and past it, and products that are subnormal or 0.
+fn far_products() {
+    scaled(b"scale largest, amplitude 0.99999994", LARGEST, 0.99999994);
+    scaled(b"scale largest, amplitude -1", LARGEST, -1.0);
+    scaled(b"scale largest, amplitude 1.0000001", LARGEST, 1.0000001);
+    scaled(b"scale largest, amplitude -1.0000001", LARGEST, -1.0000001);
+    scaled(b"scale largest, amplitude -largest", LARGEST, -LARGEST);
+    scaled(b"scale largest, amplitude smallest", LARGEST, SMALLEST);
+    scaled(b"scale smallest, amplitude largest", SMALLEST, LARGEST);
+    scaled(b"scale smallest, amplitude 0.5", SMALLEST, 0.5);
+    scaled(b"scale smallest, amplitude -smallest", SMALLEST, -SMALLEST);
+}
+
+// Scales that are not finite numbers above zero.
+fn scales_refused() {
+    scaled(b"scale NaN", nan(), 1.0);
+    scaled(b"scale infinity", infinity(), 1.0);
+    scaled(b"scale -infinity", -infinity(), 1.0);
+    scaled(b"scale 0", 0.0, 1.0);
+    scaled(b"scale -0", -0.0, 1.0);
+    scaled(b"scale -32", -32.0, 1.0);
+    scaled(b"scale -smallest", -SMALLEST, 1.0);
+    scaled(b"scale -largest", -LARGEST, 1.0);
+    let ones = [1.0f32; 256];
+    let all = [0xffu8; 16];
+    quantise(b"scale 0, all blanked", 0.0, &ones, &all);
+}
+
 fn blanked_marks() {
     let ones = [1.0f32; 256];
     let first = FIRST;
-    quantise(b"mark 0 blanked", &ones, &first);
+    quantise(b"mark 0 blanked", SCALE, &ones, &first);
     let last = LAST;
-    quantise(b"mark 127 blanked", &ones, &last);
+    quantise(b"mark 127 blanked", SCALE, &ones, &last);
     let nans = [nan(); 256];
     let all = [0xffu8; 16];
-    quantise(b"all blanked, all NaN", &nans, &all);
+    quantise(b"all blanked, all NaN", SCALE, &nans, &all);
 }
 
 // An amplitude of a blanked mark is not looked at.
 fn blanked_not_finite() {
     let first = FIRST;
     let low = with_two(nan(), 0, nan(), 1);
-    quantise(b"NaN at 0 and 1, mark 0 blanked", &low, &first);
+    quantise(b"NaN at 0 and 1, mark 0 blanked", SCALE, &low, &first);
     let last = LAST;
     let high = with_two(infinity(), 254, -infinity(), 255);
-    quantise(b"infinities at 254 and 255, mark 127 blanked", &high, &last);
+    quantise(
+        b"infinities at 254 and 255, mark 127 blanked",
+        SCALE,
+        &high,
+        &last,
+    );
     let past = with_two(nan(), 1, nan(), 2);
-    quantise(b"NaN at 1 and 2, mark 0 blanked", &past, &first);
+    quantise(b"NaN at 1 and 2, mark 0 blanked", SCALE, &past, &first);
     let before = with_two(nan(), 253, nan(), 254);
-    quantise(b"NaN at 253 and 254, mark 127 blanked", &before, &last);
+    quantise(
+        b"NaN at 253 and 254, mark 127 blanked",
+        SCALE,
+        &before,
+        &last,
+    );
 }
 
 fn heard_not_finite() {
     let none = [0u8; 16];
     let low = with_two(nan(), 0, nan(), 0);
-    quantise(b"NaN at 0", &low, &none);
+    quantise(b"NaN at 0", SCALE, &low, &none);
     let high = with_two(nan(), 255, nan(), 255);
-    quantise(b"NaN at 255", &high, &none);
+    quantise(b"NaN at 255", SCALE, &high, &none);
     let positive = with_two(infinity(), 7, infinity(), 7);
-    quantise(b"infinity at 7", &positive, &none);
+    quantise(b"infinity at 7", SCALE, &positive, &none);
     let negative = with_two(-infinity(), 200, -infinity(), 200);
-    quantise(b"-infinity at 200", &negative, &none);
+    quantise(b"-infinity at 200", SCALE, &negative, &none);
 }
 
 // The lower of two is named.
 fn two_not_finite() {
     let none = [0u8; 16];
     let both = with_two(nan(), 9, nan(), 30);
-    quantise(b"NaN at 9 and 30", &both, &none);
+    quantise(b"NaN at 9 and 30", SCALE, &both, &none);
     let mixed = with_two(nan(), 201, infinity(), 31);
-    quantise(b"infinity at 31, NaN at 201", &mixed, &none);
+    quantise(b"infinity at 31, NaN at 201", SCALE, &mixed, &none);
     let pair = with_two(-infinity(), 129, nan(), 128);
-    quantise(b"NaN at 128, -infinity at 129", &pair, &none);
+    quantise(b"NaN at 128, -infinity at 129", SCALE, &pair, &none);
 }
 
 fn lengths() {
     let ones = [1.0f32; 256];
     let none = [0u8; 16];
     let few = [1.0f32; 255];
-    quantise(b"255 amplitudes", &few, &none);
+    quantise(b"255 amplitudes", SCALE, &few, &none);
     let many = [1.0f32; 257];
-    quantise(b"257 amplitudes", &many, &none);
+    quantise(b"257 amplitudes", SCALE, &many, &none);
     let short = [0u8; 15];
-    quantise(b"mask of 15", &ones, &short);
+    quantise(b"mask of 15", SCALE, &ones, &short);
     let long = [0u8; 17];
-    quantise(b"mask of 17", &ones, &long);
+    quantise(b"mask of 17", SCALE, &ones, &long);
 }
 
 fn rooms() {
     let ones = [1.0f32; 256];
     let none = [0u8; 16];
-    quantise_short(b"room 255", &ones, &none);
-    quantise_exactly(b"room 256", &ones, &none);
-    quantise(b"room 300", &ones, &none);
+    quantise_short(b"room 255", SCALE, &ones, &none);
+    quantise_exactly(b"room 256", SCALE, &ones, &none);
+    quantise(b"room 300", SCALE, &ones, &none);
 }
 
 // Two conditions at once: the first in checking order counts.
 fn two_conditions() {
     let none = [0u8; 16];
     let few = [1.0f32; 255];
-    quantise_short(b"2 and 5, amplitudes", &few, &none);
+    quantise_short(b"2 and 5, amplitudes", SCALE, &few, &none);
     let ones = [1.0f32; 256];
     let short = [0u8; 15];
-    quantise_short(b"2 and 5, mask", &ones, &short);
+    quantise_short(b"2 and 5, mask", SCALE, &ones, &short);
     let bad = with_two(nan(), 3, infinity(), 4);
-    quantise_short(b"5 and 7", &bad, &none);
+    quantise_short(b"5 and 7", SCALE, &bad, &none);
 }
 
 fn more_conditions() {
     let none = [0u8; 16];
     let many = [nan(); 257];
-    quantise(b"2 and 7, amplitudes", &many, &none);
+    quantise(b"2 and 7, amplitudes", SCALE, &many, &none);
     let bad = with_two(nan(), 3, infinity(), 4);
     let long = [0u8; 17];
-    quantise(b"2 and 7, mask", &bad, &long);
-    quantise_short(b"2, 5 and 7", &many, &long);
+    quantise(b"2 and 7, mask", SCALE, &bad, &long);
+    quantise_short(b"2, 5 and 7", SCALE, &many, &long);
+}
+
+// A scale that is refused, together with its neighbours in checking order: 5 before it and 7 after it, and with 2.
+fn scale_conditions() {
+    let none = [0u8; 16];
+    let ones = [1.0f32; 256];
+    quantise_short(b"5 and 10", 0.0, &ones, &none);
+    let bad = with_two(nan(), 3, infinity(), 4);
+    quantise(b"10 and 7", 0.0, &bad, &none);
+    quantise_short(b"5, 10 and 7", nan(), &bad, &none);
+    let few = [1.0f32; 255];
+    quantise(b"2 and 10, amplitudes", -1.0, &few, &none);
+    let short = [0u8; 15];
+    quantise(b"2 and 10, mask", infinity(), &ones, &short);
+    let many = [nan(); 257];
+    quantise_short(b"2, 5, 10 and 7", nan(), &many, &none);
 }
 
 fn main() {
     bench_cases();
     halves();
     far_ends();
+    scaled_halves();
+    rounded_halves();
+    far_products();
+    scales_refused();
     blanked_marks();
     blanked_not_finite();
     heard_not_finite();
@@ -231,4 +340,5 @@ fn main() {
     rooms();
     two_conditions();
     more_conditions();
+    scale_conditions();
 }

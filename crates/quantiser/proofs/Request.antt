@@ -16,7 +16,7 @@ use mir.Val.{SFits}
 use Rattle.base.specs.Bit.{bit, tabulate}
 use Rattle.bits.specs.Packed.{unpack}
 use Rattle.base.proofs.List.{length-tabulate, filled, fill-next}
-use Rattle.rounding.specs.Rounding.{limited, isNegative, signed}
+use Rattle.rounding.specs.Rounding.{limited, isNegative, signed, nearestLimited}
 use Rattle.rounding.proofs.Rounded.{limited-le}
 use Rattle.quantiser.specs.Marks.{markAt, amplitude, offends, valueOf, lowest, notFinite, firstNotFinite, valueAt, Sound}
 use Rattle.quantiser.specs.declared.Symbol.{Symbol}
@@ -57,7 +57,7 @@ pub blanked-passes : 2 ≡ lowest 2 (offends Blanked)
 blanked-passes = sym (lowest-none 2 (offends Blanked) (λ j l. refl))
 
 -- A mark by its bit of the mask.
-abbrev markBy : Bool → Float → Float → Mark
+abbrev pub markBy : Bool → Float → Float → Mark
 markBy b x y = elim b [ true ↦ Blanked | false ↦ Heard (record { i = x; q = y }) ]
 
 -- ---- place 2n + j is side j of mark n
@@ -80,9 +80,9 @@ module _ (amplitudes : List Float) (blanked : List ℕ) where
   unfolding notFinite
   offence-at n j l = ap₂ (λ m i. offends (markAt amplitudes blanked m) i) (half n j l) (rest n j l)
 
-  pub value-at : (n j : ℕ) → j < 2 → valueAt amplitudes blanked (2 * n + j) ≡ valueOf (markAt amplitudes blanked n) j
+  pub value-at : (scale : Float) (n j : ℕ) → j < 2 → valueAt scale amplitudes blanked (2 * n + j) ≡ valueOf scale (markAt amplitudes blanked n) j
   unfolding valueAt
-  value-at n j l = ap₂ (λ m i. valueOf (markAt amplitudes blanked m) i) (half n j l) (rest n j l)
+  value-at scale n j l = ap₂ (λ m i. valueOf scale (markAt amplitudes blanked m) i) (half n j l) (rest n j l)
 
   -- ---- the search
 
@@ -146,9 +146,13 @@ signed-fits false n h = record { sfits = omega arith }
 signed-fits true zero h = record { sfits = omega arith }
 signed-fits true (suc n) h = record { sfits = omega arith }
 
-pub value-fits : (m : Mark) (j : ℕ) → SFits w8 (valueOf m j)
-value-fits (Heard s) j = signed-fits (isNegative (amplitude s j)) (limited 32 (amplitude s j)) (limited-le 32 (amplitude s j))
-value-fits Blanked j = record { sfits = omega arith }
+nearest-fits : (x : Float) → SFits w8 (nearestLimited x)
+unfolding nearestLimited
+nearest-fits x = signed-fits (isNegative x) (limited x) (limited-le x)
+
+pub value-fits : (scale : Float) (m : Mark) (j : ℕ) → SFits w8 (valueOf scale m j)
+value-fits scale (Heard s) j = nearest-fits _
+value-fits scale Blanked j = record { sfits = omega arith }
 
 -- The buffer keeps its length.
 pub length-filled : (f : ℕ → ℤ) (n : ℕ) (old : List ℤ) → n ≤ length old → length (filled f n old) ≡ length old

@@ -3,13 +3,13 @@ use mathlib.Core.Path.{_≡_}
 use mathlib.Core.Bool.{Bool, true, false, not}
 use mathlib.Core.List.{List}
 use Prim.Native.Nat.{ℕ, zero, suc, _+_, _*_, _/_, _%_}
-use lib.Ieee.{Float, nan}
+use lib.Ieee.{Float, nan, binary32, mul}
 use lib.Ieee.Scale.{finite}
 use lib.IntN.{ℤ, pos}
 use lib.ListN.{getD}
 use Rattle.base.specs.Bit.{bit}
 use Rattle.bits.specs.Packed.{unpack}
-use Rattle.rounding.specs.Rounding.{softValue}
+use Rattle.rounding.specs.Rounding.{nearestLimited}
 use Rattle.quantiser.specs.declared.Symbol.{Symbol}
 use Rattle.quantiser.specs.declared.Mark.{Mark}
 use Rattle.quantiser.specs.declared.Mark.the-variants.{Heard, Blanked}
@@ -32,10 +32,15 @@ abbrev pub offends : Mark → ℕ → Bool
 offends (Heard s) j = not (finite (amplitude s j))
 offends Blanked j = false
 
--- Value j of a mark: its amplitude in steps of 1 / 32, and 0 for a blanked one.
-abbrev pub valueOf : Mark → ℕ → ℤ
-valueOf (Heard s) j = softValue 32 (amplitude s j)
-valueOf Blanked j = pos 0
+-- The soft value of an amplitude, the paper's value of it: its product with the scale, rounded once in binary32, to the nearest
+-- whole number, then to the range. A product that overflows is infinite there, and goes to 127 or -127 by its sign.
+abbrev pub softValue : Float → Float → ℤ
+softValue scale x = nearestLimited (mul binary32 x scale)
+
+-- Value j of a mark: the soft value of its amplitude, and 0 for a blanked one.
+abbrev pub valueOf : Float → Mark → ℕ → ℤ
+valueOf scale (Heard s) j = softValue scale (amplitude s j)
+valueOf scale Blanked j = pos 0
 
 -- The lowest i below n of which f holds, or n where there is none.
 unfoldable pub lowest : ℕ → (ℕ → Bool) → ℕ
@@ -51,12 +56,12 @@ unfoldable pub firstNotFinite : List Float → List ℕ → ℕ
 firstNotFinite amplitudes blanked = lowest 256 (notFinite amplitudes blanked)
 
 -- Value k of 256: that of mark k / 2.
-unfoldable pub valueAt : List Float → List ℕ → ℕ → ℤ
-valueAt amplitudes blanked k = valueOf (markAt amplitudes blanked (k / 2)) (k % 2)
+unfoldable pub valueAt : Float → List Float → List ℕ → ℕ → ℤ
+valueAt scale amplitudes blanked k = valueOf scale (markAt amplitudes blanked (k / 2)) (k % 2)
 
 -- Proof side: the two values of a mark as the code holds them, and a mark none of whose amplitudes offends.
-abbrev pub pairOf : Mark → MarkValues
-pairOf m = record { i = valueOf m 0; q = valueOf m 1 }
+abbrev pub pairOf : Float → Mark → MarkValues
+pairOf scale m = record { i = valueOf scale m 0; q = valueOf scale m 1 }
 
 abbrev pub Sound : Mark → Type 0
 Sound m = (offends m 0 ≡ false) × (offends m 1 ≡ false)

@@ -5,12 +5,13 @@ ghost use mathlib.Core.List.{_++_};
 ghost use Prim.Native.Nat.{ℕ, min, _≤_, _<_};
 ghost use lib.Dec.{T};
 ghost use lib.Ieee.{binary32, isNan, ofBits};
+ghost use lib.Ieee.Positive.{positive};
 ghost use lib.Ieee.Scale.{finite};
 ghost use lib.ListN.{length, drop};
 ghost use Rattle.base.specs.Bit.{tabulate};
-ghost use Rattle.rounding.specs.Rounding.{rounded, limited, softValue};
+ghost use Rattle.rounding.specs.Rounding.{rounded, limited, nearestLimited};
 ghost use Rattle.answer.specs.Verdict.{verdict, done, settle};
-ghost use Rattle.quantiser.specs.Marks.{markAt, offends, valueOf, pairOf, lowest, firstNotFinite, Sound, valueAt};
+ghost use Rattle.quantiser.specs.Marks.{markAt, offends, softValue, pairOf, lowest, firstNotFinite, Sound, valueAt};
 ghost use Rattle.quantiser.specs.Jobs.{marksChecks, valuesFromMarks};
 use answer::Answer;
 
@@ -45,7 +46,7 @@ fn nearest(w: u32) -> u8
 // The limited size of the number whose pattern, without its sign, is given.
 fn magnitude(pattern: u32) -> u8
     requires { ⌜ pattern ≤ 2139095040 ⌝ }
-    ensures { λ r. ⌜ r ≡ limited 1 (ofBits binary32 pattern) ⌝ }
+    ensures { λ r. ⌜ r ≡ limited (ofBits binary32 pattern) ⌝ }
 {
     let field = pattern / 8388608;
     if field < 126 {
@@ -58,10 +59,10 @@ fn magnitude(pattern: u32) -> u8
     nearest(digits << (field - 126))
 }
 
-// The soft value of a product.
+// A product to the nearest whole number, limited to -127 to 127.
 fn nearest_limited(p: f32) -> i8
     requires { ⌜ T (not (isNan p)) ⌝ }
-    ensures { λ r. ⌜ r ≡ softValue 1 p ⌝ }
+    ensures { λ r. ⌜ r ≡ nearestLimited p ⌝ }
 {
     let pattern = f32::to_bits(p);
     if pattern < 2147483648 {
@@ -72,11 +73,11 @@ fn nearest_limited(p: f32) -> i8
 }
 
 // The soft value of an amplitude.
-fn quantise(x: f32) -> i8
-    requires { ⌜ T (finite x) ⌝ }
-    ensures { λ r. ⌜ r ≡ softValue 32 x ⌝ }
+fn quantise(scale: f32, x: f32) -> i8
+    requires { ⌜ T (positive scale) × T (finite x) ⌝ }
+    ensures { λ r. ⌜ r ≡ softValue scale x ⌝ }
 {
-    nearest_limited(x * 32.0)
+    nearest_limited(x * scale)
 }
 
 // Whether a number is neither a NaN nor infinite.
@@ -84,6 +85,13 @@ fn is_finite(x: f32) -> bool
     ensures { λ r. ⌜ r ≡ finite x ⌝ }
 {
     if x < 1.0 / 0.0 { -1.0 / 0.0 < x } else { false }
+}
+
+// Whether a number is finite and above zero.
+fn is_positive(x: f32) -> bool
+    ensures { λ r. ⌜ r ≡ positive x ⌝ }
+{
+    if is_finite(x) { 0.0 < x } else { false }
 }
 
 // Mark n of a request.
@@ -100,14 +108,14 @@ fn mark_at(amplitudes: &[f32], blanked: &[u8], n: usize) -> Mark
 }
 
 // The two soft values of a mark.
-fn values_of(m: Mark) -> MarkValues
-    requires { ⌜ Sound m ⌝ }
-    ensures { λ r. ⌜ r ≡ pairOf m ⌝ }
+fn values_of(scale: f32, m: Mark) -> MarkValues
+    requires { ⌜ T (positive scale) × Sound m ⌝ }
+    ensures { λ r. ⌜ r ≡ pairOf scale m ⌝ }
 {
     match m {
         Mark::Heard(s) => {
-            let i = quantise(s.i);
-            let q = quantise(s.q);
+            let i = quantise(scale, s.i);
+            let q = quantise(scale, s.q);
             MarkValues { i, q }
         }
         Mark::Blanked => MarkValues { i: 0, q: 0 },
@@ -146,14 +154,14 @@ fn first_not_finite(amplitudes: &[f32], blanked: &[u8]) -> usize
 }
 
 // Writes the soft values of all marks.
-fn store_values(amplitudes: &[f32], blanked: &[u8], values: &mut [i8])
-    requires { ⌜ (length (now amplitudes) ≡ 256) × (length (now blanked) ≡ 16) × (256 ≤ length (now values)) ⌝ }
+fn store_values(scale: f32, amplitudes: &[f32], blanked: &[u8], values: &mut [i8])
+    requires { ⌜ T (positive scale) × (length (now amplitudes) ≡ 256) × (length (now blanked) ≡ 16) × (256 ≤ length (now values)) ⌝ }
     requires { ⌜ firstNotFinite (now amplitudes) (now blanked) ≡ 256 ⌝ }
-    ensures { λ _. ⌜ now (values .exit) ≡ tabulate 256 (valueAt (now (amplitudes .entry)) (now (blanked .entry))) ++ drop 256 (now (values .entry)) ⌝ }
+    ensures { λ _. ⌜ now (values .exit) ≡ tabulate 256 (valueAt scale (now (amplitudes .entry)) (now (blanked .entry))) ++ drop 256 (now (values .entry)) ⌝ }
 {
     let mut n: usize = 0;
     while n < 128 {
-        let pair = values_of(mark_at(amplitudes, blanked, n));
+        let pair = values_of(scale, mark_at(amplitudes, blanked, n));
         let i = pair.i;
         let q = pair.q;
         values[2 * n] = i;
@@ -163,8 +171,8 @@ fn store_values(amplitudes: &[f32], blanked: &[u8], values: &mut [i8])
 }
 
 // The checks of values from marks, in checking order.
-fn marks_check(amplitudes: &[f32], blanked: &[u8], room: usize) -> Answer
-    ensures { λ r. ⌜ verdict r ≡ settle (marksChecks (now (amplitudes .entry)) (now (blanked .entry)) room) done ⌝ }
+fn marks_check(scale: f32, amplitudes: &[f32], blanked: &[u8], room: usize) -> Answer
+    ensures { λ r. ⌜ verdict r ≡ settle (marksChecks scale (now (amplitudes .entry)) (now (blanked .entry)) room) done ⌝ }
 {
     if amplitudes.len() != 256 {
         return Answer::WrongLength;
@@ -175,21 +183,30 @@ fn marks_check(amplitudes: &[f32], blanked: &[u8], room: usize) -> Answer
     if room < 256 {
         return Answer::ShortOutput;
     }
+    let positive = is_positive(scale);
     let place = first_not_finite(amplitudes, blanked);
+    if !positive {
+        return Answer::BadScale;
+    }
     if place < 256 {
         return Answer::NotFinite(place);
     }
     Answer::Done
 }
 
-// Values from marks: 128 received marks to 256 soft values.
-pub fn values_from_marks(amplitudes: &[f32], blanked: &[u8], values: &mut [i8]) -> Answer
-    ensures { λ r. ⌜ valuesFromMarks (now (amplitudes .entry)) (now (blanked .entry)) (now (values .entry)) ≡ (verdict r, now (values .exit)) ⌝ }
+// Values from marks: the scale of a frame and 128 received marks to 256 soft values.
+pub fn values_from_marks(
+    scale: f32,
+    amplitudes: &[f32],
+    blanked: &[u8],
+    values: &mut [i8],
+) -> Answer
+    ensures { λ r. ⌜ valuesFromMarks scale (now (amplitudes .entry)) (now (blanked .entry)) (now (values .entry)) ≡ (verdict r, now (values .exit)) ⌝ }
 {
-    let answer = marks_check(amplitudes, blanked, values.len());
+    let answer = marks_check(scale, amplitudes, blanked, values.len());
     if !answer::accepted(answer) {
         return answer;
     }
-    store_values(amplitudes, blanked, values);
+    store_values(scale, amplitudes, blanked, values);
     Answer::Done
 }

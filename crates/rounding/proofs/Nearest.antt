@@ -16,14 +16,14 @@ use lib.Ieee.Scale.{finite}
 use Rattle.rounding.specs.Rounding.{rounded, steps, isNegative, signed}
 use Rattle.rounding.proofs.Rounded.{Half, rounded-half, rounded-even}
 
--- How far the whole number n lies from k times x, in parts of 1 / den x.
-abbrev pub apart : ℕ → Float → ℤ → ℕ
-apart k x n = natAbs (n *ℤ pos (den x) -ℤ signed (isNegative x) (k * num x))
+-- How far the whole number n lies from p, in parts of 1 / den p.
+abbrev pub apart : Float → ℤ → ℕ
+apart p n = natAbs (n *ℤ pos (den p) -ℤ signed (isNegative p) (num p))
 
 -- ---- distances of whole numbers
 
 -- How far m and n lie apart.
-abbrev between : ℕ → ℕ → ℕ
+abbrev pub between : ℕ → ℕ → ℕ
 between m n = (m - n) + (n - m)
 
 sub-size : (m n : ℕ) → natAbs (subℕ m n) ≡ between m n
@@ -74,7 +74,7 @@ sides true a b B (negsuc m) =
     inl (suc m, (refl, ap (λ z. natAbs (negℤ (pos z) -ℤ negℤ (pos a))) (p .1) ∙ same-side-below (p .0) a ∙ ap (λ z. between z a) (sym (p .1))))
 
 -- The rounded fraction with its sign.
-own : (s : Bool) (a b w : ℕ) → 0 < b → far s a b (signed s w) ≡ between (w * b) a
+pub own : (s : Bool) (a b w : ℕ) → 0 < b → far s a b (signed s w) ≡ between (w * b) a
 own false a b w B = same-side (w * b) a
 own true a b zero B = other-side-above (0 * b) a ∙ omega arith
 own true a b (suc w) B =
@@ -136,15 +136,16 @@ module _ (s : Bool) (a b : ℕ) (B : 0 < b) where
 
 -- ---- the theorem
 
--- The steps of a finite number, with its sign, are at least as near to k times the number as any whole number n.
-pub steps-nearest : (k : ℕ) (x : Float) → T (finite x) → (n : ℤ) → apart k x (signed (isNegative x) (steps k x)) ≤ apart k x n
-steps-nearest k nan h n = absurd h
-steps-nearest k (inf s) h n = absurd h
-steps-nearest k (fin s m e) h n = far-least s (k * (m * up e)) (down e) (down-pos e) n
+-- The steps of a finite number p, with its sign, are at least as near to p as any whole number n. Of an amplitude x and a scale,
+-- p is the product mul binary32 x scale, rounded once.
+pub steps-nearest : (p : Float) → T (finite p) → (n : ℤ) → apart p (signed (isNegative p) (steps p)) ≤ apart p n
+steps-nearest nan h n = absurd h
+steps-nearest (inf s) h n = absurd h
+steps-nearest (fin s m e) h n = far-least s (m * up e) (down e) (down-pos e) n
 
 -- Where another whole number is as near, the steps are even.
-pub steps-even : (k : ℕ) (x : Float) → T (finite x) → (n : ℤ) → apart k x n ≡ apart k x (signed (isNegative x) (steps k x))
-    → (n ≡ signed (isNegative x) (steps k x) → ⊥) → steps k x % 2 ≡ 0
-steps-even k nan h n t d = absurd h
-steps-even k (inf s) h n t d = absurd h
-steps-even k (fin s m e) h n t d = far-even s (k * (m * up e)) (down e) (down-pos e) n t d
+pub steps-even : (p : Float) → T (finite p) → (n : ℤ) → apart p n ≡ apart p (signed (isNegative p) (steps p))
+    → (n ≡ signed (isNegative p) (steps p) → ⊥) → steps p % 2 ≡ 0
+steps-even nan h n t d = absurd h
+steps-even (inf s) h n t d = absurd h
+steps-even (fin s m e) h n t d = far-even s (m * up e) (down e) (down-pos e) n t d

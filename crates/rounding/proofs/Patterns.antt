@@ -2,7 +2,7 @@
 -- A pattern is a sign, an exponent field of eight bits and 23 digits: 2147483648 is 2 ^ 31 and 8388608 is 2 ^ 23.
 use mathlib.Core.Path.{_≡_, refl, sym, ap, _∙_, subst}
 use Prim.Native.Nat.{ℕ, zero, suc, _+_, _-_, _*_, _/_, _%_, _^_, min, _≤_, _<_}
-use native.Mathlib.Nat.{le-trans, le-of-eq, lt-of-lt-of-le, not-le-of-lt, mod-eq-of-lt, mul-assoc, one-mul, mul-le-mul, mul-lt-mul-of-pos-right, eq-or-lt-of-le}
+use native.Mathlib.Nat.{le-trans, le-of-eq, lt-of-lt-of-le, not-le-of-lt, mod-eq-of-lt, mul-assoc, mul-le-mul, mul-lt-mul-of-pos-right, eq-or-lt-of-le}
 use native.Mathlib.Omega.{arith}
 use mathlib.Core.Bool.{Bool, true, false, cond, not}
 use mathlib.Core.Logic.{inl, inr}
@@ -46,10 +46,8 @@ unfolding ofFields
 value s zero t h = subst (λ v. HasValue (odd 24 s t 0 149) s v (2 ^ 149)) (omega arith) (odd-sign 24 s t 0 149)
 value s (suc x) t h = subst (λ v. HasValue v s ((8388608 + t) * 2 ^ x) (2 ^ 149)) (sym (under-ones s t x h)) (odd-sign 24 s (8388608 + t) x 149)
 
-limited-val : (x t : ℕ) → x < 255 → limited 1 (ofFields binary32 false x t) ≡ min 127 (rounded (val x t) (2 ^ 149))
-limited-val x t h =
-    limited-of 1 (ofFields binary32 false x t) false (val x t) (2 ^ 149) (pow-pos 149) (value false x t h)
-    ∙ ap (λ v. min 127 (rounded v (2 ^ 149))) (one-mul (val x t))
+limited-val : (x t : ℕ) → x < 255 → limited (ofFields binary32 false x t) ≡ min 127 (rounded (val x t) (2 ^ 149))
+limited-val x t h = limited-of (ofFields binary32 false x t) false (val x t) (2 ^ 149) (pow-pos 149) (value false x t h)
 
 -- ---- below a half, from 128 on, and between
 
@@ -84,30 +82,30 @@ val-mid (suc x) t h k =
     ∙ ap (λ z. z * 2 ^ 24) (sym (mul-assoc (t + 8388608) (2 ^ (suc x - 126)) (2 ^ 125)))
     ∙ mul-assoc ((t + 8388608) * 2 ^ (suc x - 126)) (2 ^ 125) (2 ^ 24)
 
-pub limited-low : (n : ℕ) → n ≤ 2139095040 → n / 8388608 < 126 → limited 1 (ofBits binary32 n) ≡ 0
+pub limited-low : (n : ℕ) → n ≤ 2139095040 → n / 8388608 < 126 → limited (ofBits binary32 n) ≡ 0
 limited-low n h l =
-    ap (limited 1) (fields-of n h)
+    ap limited (fields-of n h)
     ∙ limited-val (n / 8388608) (n % 8388608) (omega arith)
     ∙ ap (min 127) (to-zero (val (n / 8388608) (n % 8388608)) (2 ^ 149) (val-low (n / 8388608) (n % 8388608) l (omega arith)))
 
 at-ones : (s : Bool) (t x : ℕ) → x ≡ 255 → t ≡ 0 → ofFields binary32 s x t ≡ inf s
 at-ones s t x e z = ap (λ y. ofFields binary32 s y t) e ∙ ap (λ y. ofFields binary32 s 255 y) z ∙ (unfold ofFields in refl)
 
-pub limited-high : (n : ℕ) → n ≤ 2139095040 → 134 ≤ n / 8388608 → limited 1 (ofBits binary32 n) ≡ 127
-limited-high n h l = ap (limited 1) (fields-of n h) ∙ go (n / 8388608) (n % 8388608) l (λ k. omega arith) (omega arith)
+pub limited-high : (n : ℕ) → n ≤ 2139095040 → 134 ≤ n / 8388608 → limited (ofBits binary32 n) ≡ 127
+limited-high n h l = ap limited (fields-of n h) ∙ go (n / 8388608) (n % 8388608) l (λ k. omega arith) (omega arith)
   where
-    go : (x t : ℕ) → 134 ≤ x → (255 ≤ x → (x ≡ 255) × (t ≡ 0)) → x ≤ 255 → limited 1 (ofFields binary32 false x t) ≡ 127
+    go : (x t : ℕ) → 134 ≤ x → (255 ≤ x → (x ≡ 255) × (t ≡ 0)) → x ≤ 255 → limited (ofFields binary32 false x t) ≡ 127
     go x t l k m = elim (eq-or-lt-of-le m) [
-      | inl e ↦ ap (limited 1) (at-ones false t x e (k (le-of-eq (sym e)) .1))
+      | inl e ↦ ap limited (at-ones false t x e (k (le-of-eq (sym e)) .1))
       | inr i ↦ limited-val x t i ∙ at-limit (val x t) (2 ^ 149) (pow-pos 149) (val-high x t l)
     ]
 
 pub limited-mid : (n : ℕ) → n ≤ 2139095040 → 126 ≤ n / 8388608 → n / 8388608 < 134
-    → limited 1 (ofBits binary32 n) ≡ min 127 (rounded ((n % 8388608 + 8388608) * 2 ^ (n / 8388608 - 126)) 16777216)
+    → limited (ofBits binary32 n) ≡ min 127 (rounded ((n % 8388608 + 8388608) * 2 ^ (n / 8388608 - 126)) 16777216)
 limited-mid n h l k =
     let x = n / 8388608 in
     let t = n % 8388608 in
-    ap (limited 1) (fields-of n h)
+    ap limited (fields-of n h)
     ∙ limited-val x t (omega arith)
     ∙ ap (min 127) (rounded-same (val x t) (2 ^ 149) ((t + 8388608) * 2 ^ (x - 126)) 16777216 (pow-pos 149) (pow-pos 24) (val-mid x t l k))
 
@@ -129,20 +127,20 @@ twice-mod b = omega arith
 mod-mod : (b : ℕ) → b % 2147483648 % 8388608 ≡ b % 8388608
 mod-mod b = omega arith
 
-odd-limited : (k d : ℕ) (s s' : Bool) (q j l : ℕ) → limited k (odd d s q j l) ≡ limited k (odd d s' q j l)
+odd-limited : (d : ℕ) (s s' : Bool) (q j l : ℕ) → limited (odd d s q j l) ≡ limited (odd d s' q j l)
 unfolding odd
-odd-limited k d s s' zero j l = refl
-odd-limited k d s s' (suc q) j l = refl
+odd-limited d s s' zero j l = refl
+odd-limited d s s' (suc q) j l = refl
 
-fields-limited : (k : ℕ) (s s' : Bool) (x t : ℕ) → limited k (ofFields binary32 s x t) ≡ limited k (ofFields binary32 s' x t)
+fields-limited : (s s' : Bool) (x t : ℕ) → limited (ofFields binary32 s x t) ≡ limited (ofFields binary32 s' x t)
 unfolding ofFields
-fields-limited k s s' zero t = odd-limited k 24 s s' t 0 149
-fields-limited k s s' (suc x) t = go (eqb (suc x) 255) (eqb t 0)
+fields-limited s s' zero t = odd-limited 24 s s' t 0 149
+fields-limited s s' (suc x) t = go (eqb (suc x) 255) (eqb t 0)
   where
-    go : (a b : Bool) → limited k (cond a (cond b (inf s) nan) (odd 24 s (8388608 + t) x 149)) ≡ limited k (cond a (cond b (inf s') nan) (odd 24 s' (8388608 + t) x 149))
+    go : (a b : Bool) → limited (cond a (cond b (inf s) nan) (odd 24 s (8388608 + t) x 149)) ≡ limited (cond a (cond b (inf s') nan) (odd 24 s' (8388608 + t) x 149))
     go true true = refl
     go true false = refl
-    go false b = odd-limited k 24 s s' (8388608 + t) x 149
+    go false b = odd-limited 24 s s' (8388608 + t) x 149
 
 fields-negative : (s : Bool) (x t : ℕ) → T (not (isNan (ofFields binary32 s x t))) → isNegative (ofFields binary32 s x t) ≡ s
 unfolding ofFields isNan
@@ -156,14 +154,14 @@ fields-negative s (suc x) t n = go (eqb (suc x) 255) (eqb t 0) n
 
 -- What the pattern of a number says of it.
 module _ (p : Float) (held : T (fits binary32 p)) where
-  pub limited-bits : (k : ℕ) → limited k (ofBits binary32 (toBits binary32 p % 2147483648)) ≡ limited k p
-  limited-bits k =
+  pub limited-bits : limited (ofBits binary32 (toBits binary32 p % 2147483648)) ≡ limited p
+  limited-bits =
       let b = toBits binary32 p in
-      ap (limited k) (ofBits-is (b % 2147483648))
-      ∙ ap (λ x. limited k (ofFields binary32 (leb 2147483648 (b % 2147483648)) (x / 8388608) (b % 2147483648 % 8388608))) (twice-mod b)
-      ∙ ap (λ x. limited k (ofFields binary32 (leb 2147483648 (b % 2147483648)) (b % 2147483648 / 8388608) x)) (mod-mod b)
-      ∙ fields-limited k (leb 2147483648 (b % 2147483648)) (leb 2147483648 b) (b % 2147483648 / 8388608) (b % 8388608)
-      ∙ ap (limited k) (sym (ofBits-is b) ∙ ofBits-toBits binary32 p held)
+      ap limited (ofBits-is (b % 2147483648))
+      ∙ ap (λ x. limited (ofFields binary32 (leb 2147483648 (b % 2147483648)) (x / 8388608) (b % 2147483648 % 8388608))) (twice-mod b)
+      ∙ ap (λ x. limited (ofFields binary32 (leb 2147483648 (b % 2147483648)) (b % 2147483648 / 8388608) x)) (mod-mod b)
+      ∙ fields-limited (leb 2147483648 (b % 2147483648)) (leb 2147483648 b) (b % 2147483648 / 8388608) (b % 8388608)
+      ∙ ap limited (sym (ofBits-is b) ∙ ofBits-toBits binary32 p held)
 
   pub pattern-le : T (not (isNan p)) → toBits binary32 p % 2147483648 ≤ 2139095040
   pattern-le n =

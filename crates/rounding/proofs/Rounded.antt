@@ -3,7 +3,7 @@ use mathlib.Core.Path.{_≡_, refl, sym, ap, _∙_, subst}
 use mathlib.Core.Logic.{_⊎_, inl, inr}
 use mathlib.Core.Bool.{Bool, not}
 use Prim.Native.Nat.{ℕ, zero, suc, _+_, _*_, _/_, _%_, min, _≤_, _<_, compare, Ordering, Ordering·lt, Ordering·eq, Ordering·gt}
-use native.Mathlib.Nat.{le-trans, mul-assoc, mul-le-mul-right, add-mul, suc-mul, div-add-mod', div-eq-of-lt, mod-eq-of-lt, mod-lt, le-div-iff-mul-le}
+use native.Mathlib.Nat.{le-trans, mul-le-mul-right, add-mul, suc-mul, div-add-mod', div-eq-of-lt, mod-eq-of-lt, mod-lt, le-div-iff-mul-le}
 use native.Mathlib.Omega.{arith}
 use lib.Arith.{lt-of-le-ne}
 use lib.Dec.{T, isLe, isEq, eqb, leb→le, nleb→lt, eqb→eq, eqb-refl}
@@ -137,17 +137,14 @@ unfolding odd
 odd-negative d s zero j l = refl
 odd-negative d s (suc q) j l = refl
 
--- Its limited steps, by any fraction that is its size.
-pub limited-of : (k : ℕ) (x : Float) (s : Bool) (a c : ℕ) → 0 < c → HasValue x s a c → limited k x ≡ min 127 (rounded (k * a) c)
-limited-of k nan s a c C h = absurd h
-limited-of k (inf t) s a c C h = absurd h
-limited-of k (fin t m e) s a c C h =
-    ap (min 127)
-    (rounded-same (k * (m * up e)) (down e) (k * a) c (down-pos e) C
-    (mul-assoc k (m * up e) c ∙ ap (λ z. k * z) (h .1) ∙ sym (mul-assoc k a (down e))))
+-- Its limited size, by any fraction that is its size.
+pub limited-of : (x : Float) (s : Bool) (a c : ℕ) → 0 < c → HasValue x s a c → limited x ≡ min 127 (rounded a c)
+limited-of nan s a c C h = absurd h
+limited-of (inf t) s a c C h = absurd h
+limited-of (fin t m e) s a c C h = ap (min 127) (rounded-same (m * up e) (down e) a c (down-pos e) C (h .1))
 
-pub limited-le : (k : ℕ) (x : Float) → limited k x ≤ 127
-limited-le k x = go (steps k x)
+pub limited-le : (x : Float) → limited x ≤ 127
+limited-le x = go (steps x)
   where
     go : (n : ℕ) → min 127 n ≤ 127
     go n = omega arith

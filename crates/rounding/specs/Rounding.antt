@@ -1,4 +1,4 @@
--- The nearest whole number of steps to a binary32 number, and the soft value of it. Assumes nothing.
+-- The nearest whole number to a binary32 number, limited to the range of the soft values. Assumes nothing.
 -- A finite number is `fin s m e`: m * 2 ^ e, negative where s is true. Its power 2 ^ e is the fraction up e / down e.
 use mathlib.Core.Bool.{Bool, true, false}
 use Prim.Native.Nat.{ℕ, suc, _+_, _*_, _/_, _%_, min, compare, Ordering·lt, Ordering·eq, Ordering·gt}
@@ -11,16 +11,16 @@ rounded a b =
     let q = a / b in
     elim (compare (a % b * 2) b) [ Ordering·lt ↦ q | Ordering·eq ↦ q + q % 2 | Ordering·gt ↦ suc q ]
 
--- The size of a number in steps of 1 / k, to the nearest whole number of them. An infinity, which is what a product that
--- overflows gives, stands at the limit. A NaN has no size, and no job asks for it.
-abbrev pub steps : ℕ → Float → ℕ
-steps k nan = 0
-steps k (inf s) = 127
-steps k (fin s m e) = rounded (k * (m * up e)) (down e)
+-- The size of a number, to the nearest whole number. An infinity, which is what a product that overflows gives, stands at the
+-- limit. A NaN has no size, and no job asks for it.
+abbrev pub steps : Float → ℕ
+steps nan = 0
+steps (inf s) = 127
+steps (fin s m e) = rounded (m * up e) (down e)
 
 -- The same, limited to 127.
-abbrev pub limited : ℕ → Float → ℕ
-limited k x = min 127 (steps k x)
+abbrev pub limited : Float → ℕ
+limited x = min 127 (steps x)
 
 -- Whether a number has the minus sign.
 abbrev pub isNegative : Float → Bool
@@ -33,7 +33,6 @@ abbrev pub signed : Bool → ℕ → ℤ
 signed true n = negℤ (pos n)
 signed false n = pos n
 
--- The soft value of an amplitude, the paper's value of it: the amplitude times k, to the nearest whole number, then to the
--- range -127 to 127. Minus zero gives 0.
-abbrev pub softValue : ℕ → Float → ℤ
-softValue k x = signed (isNegative x) (limited k x)
+-- A number to the nearest whole number, then to the range -127 to 127. An infinity goes to the limit of its sign, minus zero to 0.
+unfoldable pub nearestLimited : Float → ℤ
+nearestLimited x = signed (isNegative x) (limited x)

@@ -2,7 +2,7 @@
 use mathlib.Core.Path.{_≡_, refl, ap, _∙_}
 use lib.Dec.{eqb}
 use Rattle.answer.specs.declared.Answer.{Answer}
-use Rattle.answer.specs.declared.Answer.the-variants.{Done, Word, NoKernel, WrongLength, BadMask, WrongPayload, ShortOutput, ValueOutOfRange, NotFinite, WrongSize, FrozenOne}
+use Rattle.answer.specs.declared.Answer.the-variants.{Done, Word, NoKernel, WrongLength, BadMask, WrongPayload, ShortOutput, ValueOutOfRange, NotFinite, WrongSize, FrozenOne, BadScale}
 use Rattle.answer.specs.Verdict.{verdict, numberOf, isAccepted}
 use borrow.Author.Needs.{needs}
 use Rattle.answer.proofs.accepted.Statement.{statement}
@@ -20,6 +20,7 @@ by-number (ValueOutOfRange i) = refl
 by-number (NotFinite i) = refl
 by-number WrongSize = refl
 by-number (FrozenOne i) = refl
+by-number BadScale = refl
 
 number-requires : tie.Need-number-requires
 number-requires c κs = search needs

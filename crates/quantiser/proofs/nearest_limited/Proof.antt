@@ -13,7 +13,7 @@ use mir.Syntax.{w8}
 use mir.Val.{SFits, toZ}
 use mir.Facts.{toZ-pos, toZ-ofZ}
 use borrow.Author.Needs.{needs}
-use Rattle.rounding.specs.Rounding.{limited, signed, isNegative}
+use Rattle.rounding.specs.Rounding.{limited, signed, isNegative, nearestLimited}
 use Rattle.rounding.proofs.Rounded.{limited-le}
 use Rattle.rounding.proofs.Patterns.{limited-bits, pattern-le, pattern-lt, negative-bits}
 use Rattle.quantiser.proofs.nearest_limited.Statement.{statement}
@@ -43,8 +43,8 @@ magnitude-requires-2 c κs =
     subst (λ x. x ≤ 2139095040) (sym (taken-off b (c .if1 .left) (pattern-lt p (held (c .before))))) (pattern-le p (held (c .before)) (c .before .pre))
 
 -- a size as a signed byte
-small : (n k : ℕ) (x : Float) → n ≡ limited k x → n < 128
-small n k x e = lt-of-le-of-lt (subst (λ y. y ≤ 127) (sym e) (limited-le k x)) (lit< tt)
+small : (n : ℕ) (x : Float) → n ≡ limited x → n < 128
+small n x e = lt-of-le-of-lt (subst (λ y. y ≤ 127) (sym e) (limited-le x)) (lit< tt)
 
 negated-fits : (n : ℕ) → n < 128 → SFits w8 (pos 0 -ℤ pos n)
 negated-fits n h = subst (λ z. SFits w8 z) (sym (+ℤ-idl (negℤ (pos n)))) (go n h)
@@ -54,43 +54,45 @@ negated-fits n h = subst (λ z. SFits w8 z) (sym (+ℤ-idl (negℤ (pos n)))) (g
     go (suc n) h = record { sfits = omega arith }
 
 cast-result : tie.Need-cast-result
-cast-result c = record { sfits = small (c .magnitude .result) 1 (ofBits binary32 (toBits binary32 (c .before .before .args .p))) (c .magnitude .ensures) }
+cast-result c = record { sfits = small (c .magnitude .result) (ofBits binary32 (toBits binary32 (c .before .before .args .p))) (c .magnitude .ensures) }
 
 cast-result-2 : tie.Need-cast-result-2
-cast-result-2 c = record { sfits = small (c .magnitude2 .result) 1 (ofBits binary32 (toBits binary32 (c .before .before .args .p) - 2147483648)) (c .magnitude2 .ensures) }
+cast-result-2 c = record { sfits = small (c .magnitude2 .result) (ofBits binary32 (toBits binary32 (c .before .before .args .p) - 2147483648)) (c .magnitude2 .ensures) }
 
 negated : (n : ℕ) → n < 128 → SFits w8 (pos 0 -ℤ toZ w8 n)
 negated n h = subst (λ z. SFits w8 (pos 0 -ℤ z)) (sym (toZ-pos w8 h)) (negated-fits n h)
 
 sub-result : tie.Need-sub-result
-sub-result c = negated (c .magnitude2 .result) (small (c .magnitude2 .result) 1 (ofBits binary32 (toBits binary32 (c .before .before .args .p) - 2147483648)) (c .magnitude2 .ensures))
+sub-result c = negated (c .magnitude2 .result) (small (c .magnitude2 .result) (ofBits binary32 (toBits binary32 (c .before .before .args .p) - 2147483648)) (c .magnitude2 .ensures))
 
 returns : tie.Need-returns
+unfolding nearestLimited
 returns c =
     let s = c .before .before in
     let p = s .args .p in
     let b = toBits binary32 p in
     let l : b < 2147483648 = c .before .if1 .taken in
     let n = c .magnitude .result in
-    let e : n ≡ limited 1 p = c .magnitude .ensures ∙ ap (λ x. limited 1 (ofBits binary32 x)) (sym (clear b l)) ∙ limited-bits p (held s) 1 in
+    let e : n ≡ limited p = c .magnitude .ensures ∙ ap (λ x. limited (ofBits binary32 x)) (sym (clear b l)) ∙ limited-bits p (held s) in
     let g : isNegative p ≡ false = negative-bits p (held s) (s .pre) ∙ is-false (leb 2147483648 b) (lt→nleb 2147483648 b l) in
-    toZ-pos w8 (small n 1 p e) ∙ ap pos e ∙ ap (λ v. signed v (limited 1 p)) (sym g)
+    toZ-pos w8 (small n p e) ∙ ap pos e ∙ ap (λ v. signed v (limited p)) (sym g)
 
 returns-2 : tie.Need-returns-2
+unfolding nearestLimited
 returns-2 c =
     let s = c .before .before in
     let p = s .args .p in
     let b = toBits binary32 p in
     let l : 2147483648 ≤ b = c .before .if1 .left in
     let n = c .magnitude2 .result in
-    let e : n ≡ limited 1 p = c .magnitude2 .ensures ∙ ap (λ x. limited 1 (ofBits binary32 x)) (taken-off b l (pattern-lt p (held s))) ∙ limited-bits p (held s) 1 in
-    let h : n < 128 = small n 1 p e in
+    let e : n ≡ limited p = c .magnitude2 .ensures ∙ ap (λ x. limited (ofBits binary32 x)) (taken-off b l (pattern-lt p (held s))) ∙ limited-bits p (held s) in
+    let h : n < 128 = small n p e in
     let g : isNegative p ≡ true = negative-bits p (held s) (s .pre) ∙ is-true (leb 2147483648 b) (le→leb 2147483648 b l) in
     toZ-ofZ {w = w8} {z = pos 0 -ℤ toZ w8 n} (negated n h)
     ∙ ap (λ z. pos 0 -ℤ z) (toZ-pos w8 h)
     ∙ +ℤ-idl (negℤ (pos n))
     ∙ ap (λ y. negℤ (pos y)) e
-    ∙ ap (λ v. signed v (limited 1 p)) (sym g)
+    ∙ ap (λ v. signed v (limited p)) (sym g)
 
 pub nearest-limited-spec : {M : Type 1} → statement M
 nearest-limited-spec =

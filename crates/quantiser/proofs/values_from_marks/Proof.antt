@@ -21,18 +21,18 @@ accepted-requires c κs = search needs
 returns : tie.Need-returns
 returns c =
     let a = c .before .before .before .before .before .args in
-    refused-job (a .amplitudes .now) (a .blanked .now) (a .values .now) _ (c .before .before .marks-check .ensures) (sym (c .before .accepted .ensures) ∙ not-true _ (c .if1 .taken))
+    refused-job (a .scale) (a .amplitudes .now) (a .blanked .now) (a .values .now) _ (c .before .before .marks-check .ensures) (sym (c .before .accepted .ensures) ∙ not-true _ (c .if1 .taken))
 
 -- The checks accepted.
 accepts : (c : tie.Else1) → (let a = c .before .before .before .before .before .args in
-    isAccepted (settle (marksChecks (a .amplitudes .now) (a .blanked .now) (length (a .values .now))) done) ≡ true)
+    isAccepted (settle (marksChecks (a .scale) (a .amplitudes .now) (a .blanked .now) (length (a .values .now))) done) ≡ true)
 accepts c = ap isAccepted (sym (c .before .before .marks-check .ensures)) ∙ sym (c .before .accepted .ensures) ∙ not-false _ (c .if1 .left)
 
 store-values-requires : tie.Need-store-values-requires
 store-values-requires c κs =
     let a = c .before .before .before .before .before .before .args in
-    let p = accepted (a .amplitudes .now) (a .blanked .now) (a .values .now) (accepts (c .before)) in
-    ((p .count, p .marks, p .room-enough), p .all-finite)
+    let p = accepted (a .scale) (a .amplitudes .now) (a .blanked .now) (a .values .now) (accepts (c .before)) in
+    ((p .scale-positive, p .count, p .marks, p .room-enough), p .all-finite)
 
 same-length : tie.Need-same-length
 same-length c = search needs
@@ -40,7 +40,7 @@ same-length c = search needs
 returns-2 : tie.Need-returns-2
 returns-2 c =
     let a = c .before .before .before .before .before .before .before .before .args in
-    accepted-job (a .amplitudes .now) (a .blanked .now) (a .values .now) (accepts (c .before .before .before)) ∙ ap (λ (l : List ℤ). (done, l)) (sym (c .before .store-values .ensures))
+    accepted-job (a .scale) (a .amplitudes .now) (a .blanked .now) (a .values .now) (accepts (c .before .before .before)) ∙ ap (λ (l : List ℤ). (done, l)) (sym (c .before .store-values .ensures))
 
 pub values-from-marks-spec : {M : Type 1} → statement M
 values-from-marks-spec =
