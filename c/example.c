@@ -21,7 +21,7 @@ enum {
     FADED = 99         /* and another one */
 };
 
-/* What the receiver made of its noise: an amplitude of 1 counts as 32 steps. */
+/* The scale, which a receiver measures for each frame: here amplitude 1 gives the value 32. */
 static const float SCALE = 32.0f;
 
 /* Ends the program unless something holds. */

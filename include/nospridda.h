@@ -40,8 +40,9 @@
  * - No buffer of a call overlaps another one of that call.
  * - Nothing else (a thread, an interrupt, a device) writes to a buffer, or reads
  *   an output, while a job runs.
- * - A float is an IEEE 754 binary32, and the floating-point environment is the
- *   one that a program starts with.
+ * - A float is an IEEE 754 binary32, and the floating-point environment rounds
+ *   to nearest and keeps subnormal numbers. A program starts like that, unless
+ *   it was linked to flush them to zero, as with gcc's -ffast-math.
  */
 #ifndef NOSPRIDDA_H
 #define NOSPRIDDA_H
@@ -265,6 +266,7 @@ struct nospridda_outcome nospridda_information_mask(
  *   2  amplitudes_length is not 256, or blanked_length is not 16;
  *   5  values_length is below 256;
  *  10  scale is not a finite number above zero: NaN, infinite, zero or below;
+ *      also where every mark is blanked;
  *   7  an amplitude of a heard mark is NaN or infinite; place: the index of the
  *      lowest such amplitude, 0 to 255. */
 struct nospridda_outcome nospridda_values_from_marks(

@@ -131,7 +131,7 @@ fn mark_cases(tally: &mut Tally) {
         }
     }
     tally.expect(
-        old == 17 && scaled >= 20,
+        old == 17 && scaled == 25,
         format_args!("mark_cases prints {old} amplitudes, and {scaled} with a scale"),
     );
     tally.group("lines of mark_cases", old);

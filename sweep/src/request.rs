@@ -227,13 +227,13 @@ pub fn scale(random: &mut Random) -> u32 {
     }
 }
 
-/// An amplitude of both signs whose product has a size from about 2^-4 to 2^8, as far as there are any.
+/// An amplitude of either sign whose product has a size from about 2^-4 to 2^9, as far as there are any.
 pub fn in_range(random: &mut Random, scale: u32) -> u32 {
     let field = i32::from(random.between(124, 135)) - Size::of(scale).top();
     (pattern(random) & 0x807f_ffff) | ((field.clamp(0, 254) as u32) << 23)
 }
 
-/// An amplitude of both signs whose product is a half step or next to one, as far as there are any.
+/// An amplitude of either sign whose product is a half step or next to one, as far as there are any.
 pub fn near_step(random: &mut Random, scale: u32) -> u32 {
     let at = least(scale, halves(random.between(0, 260) as u64));
     let near = match random.between(0, 3) {

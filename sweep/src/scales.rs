@@ -18,7 +18,7 @@ use crate::traps::Told;
 const SUBNORMAL: u32 = 0x7f_ffff;
 const NORMAL: u32 = 0x80_0000;
 
-/// Scales that every half step is tried under.
+/// Scales that every half step is tried under, as far as a product reaches it.
 const SCALES: [u32; 12] = [
     ONE,
     0x3eaa_aaab, // 1/3
@@ -65,7 +65,7 @@ pub fn sweep(tally: &mut Tally) {
     report_bound(tally);
 }
 
-/// Products next to every half step from -130 to 130.
+/// Products next to every half step from -130 to 130, as far as there are any.
 fn half_steps(tally: &mut Tally, random: &mut Random) {
     let name = "products next to a half step";
     let others: Vec<u32> = (0..100).map(|_| any_scale(random)).collect();
@@ -196,7 +196,7 @@ fn report_kinds(tally: &mut Tally, kinds: &Kinds) {
     );
 }
 
-/// Every exponent of the scale with every exponent of the amplitude, of both signs.
+/// Every exponent of the scale with every exponent of the amplitude, which has either sign.
 fn every_exponent(tally: &mut Tally, random: &mut Random) {
     let name = "scales and amplitudes of every exponent";
     let (mut cases, mut kinds) = (0, Kinds::default());

@@ -12,7 +12,7 @@ pub data Verdict : Type 0 where
   word : ℕ → Verdict
   refused : ℕ → ℕ → Verdict
 
--- The verdict of each answer. The numbers are those of the paper's turn-backs, its conditions for a refusal.
+-- The verdict of each answer. The numbers are those of the paper's turn-backs, its conditions for a refusal, and of the requests.
 abbrev pub verdict : Answer → Verdict
 verdict Done = done
 verdict (Word w) = word w

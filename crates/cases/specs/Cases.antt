@@ -15,7 +15,6 @@ use Rattle.kernel.specs.Distances.{distanceTable}
 use Rattle.order.specs.Order.{markedPhases}
 use Rattle.order.specs.Jobs.{informationMask}
 use Rattle.follow.specs.Jobs.{kernelFollow}
-use Rattle.rounding.specs.Base.{thirtyTwo}
 use Rattle.quantiser.specs.Jobs.{valuesFromMarks}
 
 -- A case of the table.
@@ -57,6 +56,10 @@ Holds (quantising scale x value) =
 abbrev pub outside : ℕ → List Case
 outside k = tabulate 16 (λ i. valueRefused k i (pos 2048) 6)
 
+-- An amplitude and its value with scale 32.0, which is 1 * 2 ^ 5.
+abbrev pub at32 : Float → ℤ → Case
+at32 amplitude value = quantising (fin false 1 (pos 5)) amplitude value
+
 -- The table: every case of every bullet of the paper that has a star. Where all values are 1, the scores are the partial distances.
 -- The amplitudes are 1.0, 0.015625, 0.046875, 3.96875, 4.0, -4.0 and minus zero, with scale 32.0.
 abbrev pub starred : List Case
@@ -78,13 +81,13 @@ starred =
     ∷ masking 1 (191 ∷ 223 ∷ 239 ∷ 250 ∷ 251 ∷ 253 ∷ 254 ∷ 255 ∷ [])
     ∷ sizeRefused 0 8
     ∷ sizeRefused 33 8
-    ∷ quantising thirtyTwo (fin false 1 (pos 0)) (pos 32)
-    ∷ quantising thirtyTwo (fin false 1 (negsuc 5)) (pos 0)
-    ∷ quantising thirtyTwo (fin false 3 (negsuc 5)) (pos 2)
-    ∷ quantising thirtyTwo (fin false 127 (negsuc 4)) (pos 127)
-    ∷ quantising thirtyTwo (fin false 1 (pos 2)) (pos 127)
-    ∷ quantising thirtyTwo (fin true 1 (pos 2)) (negsuc 126)
-    ∷ quantising thirtyTwo (fin true 0 (pos 0)) (pos 0)
+    ∷ at32 (fin false 1 (pos 0)) (pos 32)
+    ∷ at32 (fin false 1 (negsuc 5)) (pos 0)
+    ∷ at32 (fin false 3 (negsuc 5)) (pos 2)
+    ∷ at32 (fin false 127 (negsuc 4)) (pos 127)
+    ∷ at32 (fin false 1 (pos 2)) (pos 127)
+    ∷ at32 (fin true 1 (pos 2)) (negsuc 126)
+    ∷ at32 (fin true 0 (pos 0)) (pos 0)
     ∷ outside 0 ++ outside 1 ++ outside 2
 
 -- Every case of a table holds.

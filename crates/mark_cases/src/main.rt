@@ -101,7 +101,7 @@ fn with_two(x: f32, first: usize, y: f32, second: usize) -> [f32; 256]
 }
 
 // An amplitude as Q of mark 0 and I of mark 127; all others are 1.0.
-fn scaled(label: &[u8], scale: f32, x: f32) {
+fn with_scale(label: &[u8], scale: f32, x: f32) {
     let amplitudes = with_two(x, 1, x, 254);
     let none = [0u8; 16];
     quantise(label, scale, &amplitudes, &none);
@@ -109,7 +109,7 @@ fn scaled(label: &[u8], scale: f32, x: f32) {
 
 // The same with scale 32.
 fn one(label: &[u8], x: f32) {
-    scaled(label, SCALE, x);
+    with_scale(label, SCALE, x);
 }
 
 fn bench_cases() {
@@ -139,69 +139,70 @@ fn far_ends() {
     one(b"amplitude -smallest", -SMALLEST);
 }
 
-// Halves of other scales.
+// Halves under several scales.
 fn scaled_halves() {
-    scaled(b"scale 1, amplitude 0.5", 1.0, 0.5);
-    scaled(b"scale 1, amplitude -1.5", 1.0, -1.5);
-    scaled(b"scale 1, amplitude 126.5", 1.0, 126.5);
-    scaled(b"scale 1, amplitude -127.5", 1.0, -127.5);
-    scaled(b"scale 32, amplitude 0.078125", 32.0, 0.078125);
-    scaled(b"scale 127, amplitude 0.5", 127.0, 0.5);
-    scaled(b"scale 127, amplitude -1.5", 127.0, -1.5);
-    scaled(
+    with_scale(b"scale 1, amplitude 0.5", 1.0, 0.5);
+    with_scale(b"scale 1, amplitude -1.5", 1.0, -1.5);
+    with_scale(b"scale 1, amplitude 126.5", 1.0, 126.5);
+    with_scale(b"scale 1, amplitude -127.5", 1.0, -127.5);
+    with_scale(b"scale 32, amplitude 0.078125", 32.0, 0.078125);
+    with_scale(b"scale 127, amplitude 0.5", 127.0, 0.5);
+    with_scale(b"scale 127, amplitude -1.5", 127.0, -1.5);
+    with_scale(
         b"scale 1267650600228229401496703205376, amplitude 3.9443045e-31",
         TWO_TO_100,
         3.9443045e-31,
     );
-    scaled(
+    with_scale(
         b"scale 1267650600228229401496703205376, amplitude 1.1832914e-30",
         TWO_TO_100,
         1.1832914e-30,
     );
 }
 
-// The product rounded in f32 is a half, and the exact one lies next to it: the even neighbour is not always the nearest
-// to the exact one.
+// The exact product lies next to a half. In all but the fourth the product rounded in f32 is the half itself, and its
+// even neighbour is not always the nearest to the exact one.
 fn rounded_halves() {
-    scaled(b"scale 0.33333334, amplitude 1.5", 0.33333334, 1.5);
-    scaled(b"scale 0.33333334, amplitude 4.5", 0.33333334, 4.5);
-    scaled(b"scale 0.33333334, amplitude -7.5", 0.33333334, -7.5);
-    scaled(b"scale 31.999998, amplitude 0.015625", 31.999998, 0.015625);
-    scaled(
+    with_scale(b"scale 0.33333334, amplitude 1.5", 0.33333334, 1.5);
+    with_scale(b"scale 0.33333334, amplitude 4.5", 0.33333334, 4.5);
+    with_scale(b"scale 0.33333334, amplitude -7.5", 0.33333334, -7.5);
+    with_scale(b"scale 31.999998, amplitude 0.015625", 31.999998, 0.015625);
+    with_scale(
         b"scale 31.999998, amplitude 0.015625002",
         31.999998,
         0.015625002,
     );
-    scaled(
+    with_scale(
         b"scale 31.999998, amplitude -0.015625002",
         31.999998,
         -0.015625002,
     );
 }
 
-// Products at the largest number and past it, and products that are subnormal or 0.
+// Products at the largest number and past it, and products that are small, subnormal or 0.
 fn far_products() {
-    scaled(b"scale largest, amplitude 0.99999994", LARGEST, 0.99999994);
-    scaled(b"scale largest, amplitude -1", LARGEST, -1.0);
-    scaled(b"scale largest, amplitude 1.0000001", LARGEST, 1.0000001);
-    scaled(b"scale largest, amplitude -1.0000001", LARGEST, -1.0000001);
-    scaled(b"scale largest, amplitude -largest", LARGEST, -LARGEST);
-    scaled(b"scale largest, amplitude smallest", LARGEST, SMALLEST);
-    scaled(b"scale smallest, amplitude largest", SMALLEST, LARGEST);
-    scaled(b"scale smallest, amplitude 0.5", SMALLEST, 0.5);
-    scaled(b"scale smallest, amplitude -smallest", SMALLEST, -SMALLEST);
+    with_scale(b"scale largest, amplitude 0.99999994", LARGEST, 0.99999994);
+    with_scale(b"scale largest, amplitude -1", LARGEST, -1.0);
+    with_scale(b"scale largest, amplitude 1.0000001", LARGEST, 1.0000001);
+    with_scale(b"scale largest, amplitude -1.0000001", LARGEST, -1.0000001);
+    with_scale(b"scale largest, amplitude -largest", LARGEST, -LARGEST);
+    with_scale(b"scale largest, amplitude smallest", LARGEST, SMALLEST);
+    with_scale(b"scale smallest, amplitude largest", SMALLEST, LARGEST);
+    with_scale(b"scale smallest, amplitude 3", SMALLEST, 3.0);
+    with_scale(b"scale smallest, amplitude 0.5", SMALLEST, 0.5);
+    with_scale(b"scale smallest, amplitude -smallest", SMALLEST, -SMALLEST);
 }
 
 // Scales that are not finite numbers above zero.
 fn scales_refused() {
-    scaled(b"scale NaN", nan(), 1.0);
-    scaled(b"scale infinity", infinity(), 1.0);
-    scaled(b"scale -infinity", -infinity(), 1.0);
-    scaled(b"scale 0", 0.0, 1.0);
-    scaled(b"scale -0", -0.0, 1.0);
-    scaled(b"scale -32", -32.0, 1.0);
-    scaled(b"scale -smallest", -SMALLEST, 1.0);
-    scaled(b"scale -largest", -LARGEST, 1.0);
+    with_scale(b"scale NaN", nan(), 1.0);
+    with_scale(b"scale infinity", infinity(), 1.0);
+    with_scale(b"scale -infinity", -infinity(), 1.0);
+    with_scale(b"scale 0", 0.0, 1.0);
+    with_scale(b"scale -0", -0.0, 1.0);
+    with_scale(b"scale -32", -32.0, 1.0);
+    with_scale(b"scale -smallest", -SMALLEST, 1.0);
+    with_scale(b"scale -largest", -LARGEST, 1.0);
     let ones = [1.0f32; 256];
     let all = [0xffu8; 16];
     quantise(b"scale 0, all blanked", 0.0, &ones, &all);

@@ -1,11 +1,11 @@
 -- What the acceptance of the checks yields, and what the job leaves. Assumes nothing.
 use mathlib.Core.Path.{_≡_, sym, ap, _∙_, subst}
-use mathlib.Core.Bool.{true, false}
+use mathlib.Core.Bool.{true, false, not}
 use mathlib.Core.List.{List, _++_}
 use Prim.Native.Nat.{ℕ, _≤_}
 use native.Mathlib.Omega.{arith}
 use borrow.Author.Tests.{not-false, eqb-true, ltb-false}
-use lib.Dec.{T}
+use lib.Dec.{T, ltb}
 use lib.Ieee.{Float}
 use lib.Ieee.Positive.{positive}
 use lib.IntN.{ℤ}
@@ -30,14 +30,16 @@ pub record Accepted (scale : Float) (amplitudes : List Float) (blanked : List �
 passes : (scale : Float) (amplitudes : List Float) (blanked : List ℕ) (room : ℕ) → None (marksChecks scale amplitudes blanked room) → Accepted scale amplitudes blanked room
 unfolding marksChecks firstNotFinite
 passes scale amplitudes blanked room n =
+    let usable : not (positive scale) ≡ false = search (n .1 .1 .0, n .1 .1 .1 .0) in
+    let sound : ltb (firstNotFinite amplitudes blanked) 256 ≡ false = search (n .1 .1 .0, n .1 .1 .1 .0) in
     let e = or-eq-false _ _ (n .0) in
-    let f = ltb-false (firstNotFinite amplitudes blanked) 256 (n .1 .1 .1 .0) in
+    let f = ltb-false (firstNotFinite amplitudes blanked) 256 sound in
     let g = lowest-le 256 (notFinite amplitudes blanked) in
     record {
       count = eqb-true (length amplitudes) 256 (not-false _ (e .0));
       marks = eqb-true (length blanked) 16 (not-false _ (e .1));
       room-enough = ltb-false room 256 (n .1 .0);
-      scale-positive = subst T (sym (not-false (positive scale) (n .1 .1 .0))) tt;
+      scale-positive = subst T (sym (not-false (positive scale) usable)) tt;
       all-finite = omega arith;
     }
 

@@ -18,7 +18,7 @@ use Rattle.bits.specs.Packed.{unpack}
 use Rattle.base.proofs.List.{length-tabulate, filled, fill-next}
 use Rattle.rounding.specs.Rounding.{limited, isNegative, signed, nearestLimited}
 use Rattle.rounding.proofs.Rounded.{limited-le}
-use Rattle.quantiser.specs.Marks.{markAt, amplitude, offends, valueOf, lowest, notFinite, firstNotFinite, valueAt, Sound}
+use Rattle.quantiser.specs.Marks.{markAt, offends, valueOf, lowest, notFinite, firstNotFinite, valueAt, Sound}
 use Rattle.quantiser.specs.declared.Symbol.{Symbol}
 use Rattle.quantiser.specs.declared.Mark.{Mark}
 use Rattle.quantiser.specs.declared.Mark.the-variants.{Heard, Blanked}

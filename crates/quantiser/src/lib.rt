@@ -183,11 +183,10 @@ fn marks_check(scale: f32, amplitudes: &[f32], blanked: &[u8], room: usize) -> A
     if room < 256 {
         return Answer::ShortOutput;
     }
-    let positive = is_positive(scale);
-    let place = first_not_finite(amplitudes, blanked);
-    if !positive {
+    if !is_positive(scale) {
         return Answer::BadScale;
     }
+    let place = first_not_finite(amplitudes, blanked);
     if place < 256 {
         return Answer::NotFinite(place);
     }

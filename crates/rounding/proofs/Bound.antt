@@ -8,7 +8,7 @@ use native.Mathlib.Omega.{arith}
 use mathlib.Core.Bool.{Bool, true, false}
 use lib.Dec.{T, lit≤}
 use lib.Pow.{pow-pos, pow-mono}
-use lib.IntN.{ℤ, pos, natAbs, _-ℤ_, _*ℤ_}
+use lib.IntN.{pos, natAbs, _-ℤ_, _*ℤ_}
 use lib.Ieee.{Float, nan, inf, fin, up, down, unlike, binary32, size, mul}
 use lib.Ieee.Digits.{size-le}
 use lib.Ieee.Fits.{down-pos}
@@ -17,7 +17,7 @@ use lib.Ieee.Order.{drop}
 use lib.Ieee.Positive.{num, den, positive, positive-finite, den-pos}
 use lib.Ieee.Scale.{grid, finite}
 use Rattle.rounding.specs.Rounding.{rounded, limited, isNegative, nearestLimited, signed}
-use Rattle.rounding.specs.Bound.{exactUnit, NearProduct}
+use Rattle.rounding.specs.Bound.{productDen, Near, NearProduct}
 use Rattle.rounding.proofs.Rounded.{Half, rounded-half, rounded-closest, at-limit}
 use Rattle.rounding.proofs.Nearest.{between, own}
 use Rattle.rounding.proofs.Products.{round-limited, grid-large, product-negative}
@@ -76,7 +76,7 @@ joined E N g A C p h s t =
 
 -- v lies within 1/2 + 1/131072 of the size A / C limited to 127.
 abbrev Within : ℕ → ℕ → ℕ → Type 0
-Within v A C = between (v * C) (min (127 * C) A) * 131072 ≤ 65537 * C
+Within v A C = Near (between (v * C) (min (127 * C) A)) C
 
 limits : (N C A : ℕ) → Close N A C → Within (min 127 N) A C
 limits N C A (s, t) = go (decLt 127 N)
@@ -84,8 +84,8 @@ limits N C A (s, t) = go (decLt 127 N)
     go : Dec (127 < N) → Within (min 127 N) A C
     go (yes h) =
         let m : min 127 N ≡ 127 = omega arith in
-        let g : 127 ≤ N = omega arith in
-        let f : 127 * C ≤ N * C = mul-le-mul-right C g in
+        let g : 128 ≤ N = omega arith in
+        let f : 128 * C ≤ N * C = mul-le-mul-right C g in
         subst (λ v. Within v A C) (sym m) (omega arith)
     go (no h) =
         let m : min 127 N ≡ N = omega arith in
@@ -136,9 +136,9 @@ pub product-near : (scale x : Float) → T (positive scale) → T (finite x) →
 unfolding NearProduct nearestLimited
 product-near scale x p h =
     let k = positive-finite scale p in
-    let c = exactUnit scale x in
+    let c = productDen scale x in
     let m = min (127 * c) (num x * num scale) in
     let v = limited (mul binary32 x scale) in
     let s = isNegative x in
-    subst (λ t. natAbs (signed t v *ℤ pos c -ℤ signed s m) * 131072 ≤ 65537 * c) (sym (product-negative x scale h k ∙ sign-kept s scale p))
-    (subst (λ z. z * 131072 ≤ 65537 * c) (sym (own s m c v (mul-pos (den-pos x) (den-pos scale)))) (product-within x scale h k))
+    subst (λ t. Near (natAbs (signed t v *ℤ pos c -ℤ signed s m)) c) (sym (product-negative x scale h k ∙ sign-kept s scale p))
+    (subst (λ z. Near z c) (sym (own s m c v (mul-pos (den-pos x) (den-pos scale)))) (product-within x scale h k))

@@ -2,5 +2,5 @@ pub mod Rounded
 pub mod Nearest
 pub mod Products
 pub mod Bound
-pub mod Base
+pub mod Fixed
 pub mod Patterns

@@ -1,4 +1,4 @@
--- The steps of a number are nearest to it among all whole numbers, and even where another is as near. Assumes nothing.
+-- The steps of a product are nearest to it among all whole numbers, and even where another is as near. Assumes nothing.
 use mathlib.Core.Path.{_≡_, refl, sym, ap, _∙_}
 use mathlib.Core.Logic.{_⊎_, inl, inr}
 use mathlib.Core.Bool.{Bool, true, false, cond}
@@ -9,7 +9,7 @@ use native.Mathlib.Omega.{arith}
 use borrow.Author.Tests.{ltb-true, ltb-false}
 use lib.Dec.{T, ltb}
 use lib.IntN.{ℤ, pos, negsuc, negℤ, negℤ-negℤ, natAbs, subℕ, _-ℤ_, _*ℤ_}
-use lib.Ieee.{Float, nan, inf, fin, up, down}
+use lib.Ieee.{Float, nan, inf, fin, up, down, binary32, mul}
 use lib.Ieee.Fits.{down-pos}
 use lib.Ieee.Positive.{num, den}
 use lib.Ieee.Scale.{finite}
@@ -58,27 +58,27 @@ abbrev Sides : Bool → ℕ → ℕ → ℤ → Type 0
 Sides s a b n = ((m : ℕ) × ((n ≡ signed s m) × (far s a b n ≡ between (m * b) a))) ⊎ ((m : ℕ) × (far s a b n ≡ suc m * b + a))
 
 -- A product with b above 0.
-positive : (m b : ℕ) → 0 < b → (p : ℕ) × (suc m * b ≡ suc p)
-positive m zero l = absurd (omega arith)
-positive m (suc b) l = (suc m * suc b - 1, omega (arith, suc-mul m (suc b)))
+product-suc : (m b : ℕ) → 0 < b → (p : ℕ) × (suc m * b ≡ suc p)
+product-suc m zero l = absurd (omega arith)
+product-suc m (suc b) l = (suc m * suc b - 1, omega (arith, suc-mul m (suc b)))
 
 sides : (s : Bool) (a b : ℕ) → 0 < b → (n : ℤ) → Sides s a b n
 sides false a b B (pos m) = inl (m, (refl, same-side (m * b) a))
 sides false a b B (negsuc m) =
-    let p = positive m b B in
+    let p = product-suc m b B in
     inr (m, ap (λ z. natAbs (negℤ (pos z) -ℤ pos a)) (p .1) ∙ other-side (p .0) a ∙ ap (λ z. z + a) (sym (p .1)))
 sides true a b B (pos zero) = inl (0, (refl, other-side-above (0 * b) a ∙ omega arith))
 sides true a b B (pos (suc m)) = inr (m, other-side-above (suc m * b) a)
 sides true a b B (negsuc m) =
-    let p = positive m b B in
+    let p = product-suc m b B in
     inl (suc m, (refl, ap (λ z. natAbs (negℤ (pos z) -ℤ negℤ (pos a))) (p .1) ∙ same-side-below (p .0) a ∙ ap (λ z. between z a) (sym (p .1))))
 
--- The rounded fraction with its sign.
+-- A whole number with the fraction's own sign.
 pub own : (s : Bool) (a b w : ℕ) → 0 < b → far s a b (signed s w) ≡ between (w * b) a
 own false a b w B = same-side (w * b) a
 own true a b zero B = other-side-above (0 * b) a ∙ omega arith
 own true a b (suc w) B =
-    let p = positive w b B in
+    let p = product-suc w b B in
     ap (λ z. natAbs (negℤ (pos z) -ℤ negℤ (pos a))) (p .1) ∙ same-side-below (p .0) a ∙ ap (λ z. between z a) (sym (p .1))
 
 -- Two whole numbers lie a whole apart.
@@ -134,18 +134,27 @@ module _ (s : Bool) (a b : ℕ) (B : 0 < b) where
           let u : between (rounded a b * b) a ≡ suc m * b + a = sym (own s a b (rounded a b) B) ∙ sym t ∙ f in
           absurd (omega arith)
 
--- ---- the theorem
+-- ---- any finite number
 
--- The steps of a finite number p, with its sign, are at least as near to p as any whole number n. Of an amplitude x and a scale,
--- p is the product mul binary32 x scale, rounded once.
-pub steps-nearest : (p : Float) → T (finite p) → (n : ℤ) → apart p (signed (isNegative p) (steps p)) ≤ apart p n
-steps-nearest nan h n = absurd h
-steps-nearest (inf s) h n = absurd h
-steps-nearest (fin s m e) h n = far-least s (m * up e) (down e) (down-pos e) n
+near-all : (p : Float) → T (finite p) → (n : ℤ) → apart p (signed (isNegative p) (steps p)) ≤ apart p n
+near-all nan h n = absurd h
+near-all (inf s) h n = absurd h
+near-all (fin s m e) h n = far-least s (m * up e) (down e) (down-pos e) n
 
--- Where another whole number is as near, the steps are even.
-pub steps-even : (p : Float) → T (finite p) → (n : ℤ) → apart p n ≡ apart p (signed (isNegative p) (steps p))
+even-all : (p : Float) → T (finite p) → (n : ℤ) → apart p n ≡ apart p (signed (isNegative p) (steps p))
     → (n ≡ signed (isNegative p) (steps p) → ⊥) → steps p % 2 ≡ 0
-steps-even nan h n t d = absurd h
-steps-even (inf s) h n t d = absurd h
-steps-even (fin s m e) h n t d = far-even s (m * up e) (down e) (down-pos e) n t d
+even-all nan h n t d = absurd h
+even-all (inf s) h n t d = absurd h
+even-all (fin s m e) h n t d = far-even s (m * up e) (down e) (down-pos e) n t d
+
+-- ---- the theorem, of the product of an amplitude and a scale, rounded once in binary32
+
+module _ (scale x : Float) (h : T (finite (mul binary32 x scale))) where
+  -- Where it does not overflow, its steps, with its sign, are at least as near to it as any whole number n.
+  pub steps-nearest : (n : ℤ) → (let p = mul binary32 x scale in apart p (signed (isNegative p) (steps p)) ≤ apart p n)
+  steps-nearest n = near-all (mul binary32 x scale) h n
+
+  -- Where another whole number is as near, the steps are even.
+  pub steps-even : (n : ℤ) → (let p = mul binary32 x scale in
+      apart p n ≡ apart p (signed (isNegative p) (steps p)) → (n ≡ signed (isNegative p) (steps p) → ⊥) → steps p % 2 ≡ 0)
+  steps-even n t d = even-all (mul binary32 x scale) h n t d

@@ -84,7 +84,7 @@ product-real (fin s m e) nan h k = absurd k
 product-real (fin s m e) (inf t) h k = absurd k
 product-real (fin s m e) (fin t n d) h k = round-real (unlike s t) (m * up e * (n * up d)) (down e * down d)
 
--- Its sign is that of its factors.
+-- It is negative where one factor is and the other is not.
 pub product-negative : (x y : Float) → T (finite x) → T (finite y) → isNegative (mul binary32 x y) ≡ unlike (isNegative x) (isNegative y)
 unfolding mul
 product-negative nan y h k = absurd h

@@ -6,14 +6,18 @@ use lib.Ieee.{Float}
 use lib.Ieee.Positive.{num, den}
 use Rattle.rounding.specs.Rounding.{isNegative, signed}
 
--- The exact product of x and a scale above zero, limited to -127 to 127, is the fraction exactProduct / exactUnit.
-abbrev pub exactUnit : Float → Float → ℕ
-exactUnit scale x = den x * den scale
+-- The exact product of x and a scale above zero is a fraction: its denominator,
+abbrev pub productDen : Float → Float → ℕ
+productDen scale x = den x * den scale
 
-abbrev pub exactProduct : Float → Float → ℤ
-exactProduct scale x = signed (isNegative x) (min (127 * exactUnit scale x) (num x * num scale))
+-- and its numerator once it is limited to -127 to 127.
+abbrev pub limitedNum : Float → Float → ℤ
+limitedNum scale x = signed (isNegative x) (min (127 * productDen scale x) (num x * num scale))
 
--- v lies within 1/2 + 1/131072 of that fraction. The sum is 65537 / 131072, and both sides are multiplied by 131072 and by the
--- fraction's denominator.
+-- The distance d / c is at most 1/2 + 1/131072, which is 65537 / 131072.
+abbrev pub Near : ℕ → ℕ → Type 0
+Near d c = d * 131072 ≤ 65537 * c
+
+-- v lies that near to the exact product limited to -127 to 127. Both are multiplied by the denominator.
 unfoldable pub NearProduct : Float → Float → ℤ → Type 0
-NearProduct scale x v = natAbs (v *ℤ pos (exactUnit scale x) -ℤ exactProduct scale x) * 131072 ≤ 65537 * exactUnit scale x
+NearProduct scale x v = Near (natAbs (v *ℤ pos (productDen scale x) -ℤ limitedNum scale x)) (productDen scale x)

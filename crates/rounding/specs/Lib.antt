@@ -1,3 +1,3 @@
 pub mod Rounding
 pub mod Bound
-pub mod Base
+pub mod Fixed

@@ -1,1 +1,2 @@
-// The nearest whole number of steps: its definition and its theory over exact values. No function runs.
+// The nearest whole number to a float, and how far a rounded product lies from the exact one: definitions and theory.
+// No function runs.

@@ -1,1 +1,1 @@
-pub mod Base
+pub mod Fixed

@@ -21,28 +21,27 @@ returns-3 c = simp (eq-eqb _ _ (c .before .before .if1 .left), eq-eqb _ _ (c .be
 is-positive-requires : tie.Need-is-positive-requires
 is-positive-requires c κs = search needs
 
-first-not-finite-requires : tie.Need-first-not-finite-requires
-first-not-finite-requires c κs = (c .before .before .before .if1 .left, c .before .before .if2 .left)
-
 returns-4 : tie.Need-returns-4
 unfolding marksChecks
 returns-4 c =
-    let d = c .before .before .before in
-    simp (eq-eqb _ _ (d .before .before .if1 .left), eq-eqb _ _ (d .before .if2 .left), le-ltb _ _ (d .if3 .left), ← c .before .before .is-positive .ensures, c .if4 .taken)
+    simp (eq-eqb _ _ (c .before .before .before .before .if1 .left), eq-eqb _ _ (c .before .before .before .if2 .left), le-ltb _ _ (c .before .before .if3 .left), ← c .before .is-positive .ensures, c .if4 .taken)
+
+first-not-finite-requires : tie.Need-first-not-finite-requires
+first-not-finite-requires c κs = (c .before .before .before .before .if1 .left, c .before .before .before .if2 .left)
 
 returns-5 : tie.Need-returns-5
 unfolding marksChecks
 returns-5 c =
-    let d = c .before .before .before .before in
-    simp (eq-eqb _ _ (d .before .before .if1 .left), eq-eqb _ _ (d .before .if2 .left), le-ltb _ _ (d .if3 .left), ← c .before .before .before .is-positive .ensures, c .before .if4 .left, ← c .before .before .first-not-finite .ensures, lt-ltb _ _ (c .if5 .taken))
+    let d = c .before .before in
+    simp (eq-eqb _ _ (d .before .before .before .before .if1 .left), eq-eqb _ _ (d .before .before .before .if2 .left), le-ltb _ _ (d .before .before .if3 .left), ← d .before .is-positive .ensures, d .if4 .left, ← c .before .first-not-finite .ensures, lt-ltb _ _ (c .if5 .taken))
 
 returns-6 : tie.Need-returns-6
 unfolding marksChecks
 returns-6 c =
-    let d = c .before .before .before .before in
-    simp (eq-eqb _ _ (d .before .before .if1 .left), eq-eqb _ _ (d .before .if2 .left), le-ltb _ _ (d .if3 .left), ← c .before .before .before .is-positive .ensures, c .before .if4 .left, ← c .before .before .first-not-finite .ensures, le-ltb _ _ (c .if5 .left))
+    let d = c .before .before in
+    simp (eq-eqb _ _ (d .before .before .before .before .if1 .left), eq-eqb _ _ (d .before .before .before .if2 .left), le-ltb _ _ (d .before .before .if3 .left), ← d .before .is-positive .ensures, d .if4 .left, ← c .before .first-not-finite .ensures, le-ltb _ _ (c .if5 .left))
 
 pub marks-check-spec : {M : Type 1} → statement M
 marks-check-spec =
     tie.close
-    (tie.spec returns returns-2 returns-3 is-positive-requires first-not-finite-requires returns-4 returns-5 returns-6)
+    (tie.spec returns returns-2 returns-3 is-positive-requires returns-4 first-not-finite-requires returns-5 returns-6)

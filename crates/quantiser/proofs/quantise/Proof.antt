@@ -8,6 +8,7 @@ use Rattle.rounding.proofs.Products.{product-real}
 use Rattle.quantiser.proofs.quantise.Statement.{statement}
 use Rattle.quantiser.proofs.quantise.Tie as tie
 
+-- The product is a number, whatever finite factor the code takes.
 nearest-limited-requires : tie.Need-nearest-limited-requires
 unfolding ofBits
 nearest-limited-requires c κs = product-real (c .args .x) _ (c .pre .1) (search (positive-finite, c .pre .0))

@@ -1,4 +1,4 @@
--- The product with scale 32: it loses nothing unless it overflows, so the soft value is the base's. Assumes nothing.
+-- The product with scale 32: it loses nothing unless it overflows, so the soft value is that of the fixed factor. Assumes nothing.
 use mathlib.Core.Path.{_≡_, refl, sym, ap, _∙_, subst}
 use Prim.Native.Nat.{ℕ, zero, suc, _+_, _-_, _*_, _%_, _^_, min, _≤_, _<_}
 use native.Mathlib.Nat.{le-trans, le-of-eq, lt-of-lt-of-le, not-le-of-lt, mul-one, mul-assoc, mul-comm, mul-right-comm, mul-le-mul-right, mul-lt-mul-of-pos-right, lt-of-mul-lt-mul-right}
@@ -14,7 +14,7 @@ use lib.Ieee.Exact.{HasValue, round-exact}
 use lib.Ieee.Positive.{num, den}
 use lib.Ieee.Scale.{grid, finite}
 use Rattle.rounding.specs.Rounding.{rounded, limited, isNegative, nearestLimited, signed}
-use Rattle.rounding.specs.Base.{thirtyTwo, baseSteps, baseValue}
+use Rattle.rounding.specs.Fixed.{thirtyTwo, fixedSteps, fixedValue}
 use Rattle.rounding.proofs.Rounded.{limited-of, at-limit}
 use Rattle.rounding.proofs.Products.{round-limited, round-negative, grid-large}
 
@@ -33,15 +33,15 @@ product-is s m e =
     ∙ ap (λ a. round binary32 s a (down e)) (mul-comm (m * up e) 32)
 
 -- 32 * m * 2 ^ e is a multiple m * 2 ^ j of 2 ^ -149: it has m's digits.
-scaled : (m : ℕ) (e : ℤ) → down e ≤ 2 ^ 149 → (j : ℕ) × (32 * (m * up e) * 2 ^ 149 ≡ m * 2 ^ j * down e)
-scaled m (pos k) h = (
+multiple : (m : ℕ) (e : ℤ) → down e ≤ 2 ^ 149 → (j : ℕ) × (32 * (m * up e) * 2 ^ 149 ≡ m * 2 ^ j * down e)
+multiple m (pos k) h = (
   k + 154,
   ap (λ z. z * 2 ^ 149) (mul-comm 32 (m * 2 ^ k) ∙ mul-assoc m (2 ^ k) 32)
       ∙ mul-assoc m (2 ^ k * 32) (2 ^ 149)
       ∙ ap (λ z. m * z) (mul-assoc (2 ^ k) 32 (2 ^ 149) ∙ sym (pow-add 2 k 154))
       ∙ sym (mul-one (m * 2 ^ (k + 154))),
 )
-scaled m (negsuc k) h =
+multiple m (negsuc k) h =
     let l : suc k ≤ 149 = exponent (suc k) h (decLt 149 (suc k)) in
     let b : 154 - suc k + suc k ≡ 154 = omega arith in (
       154 - suc k,
@@ -83,7 +83,7 @@ product-exact (fin s m e) h k l =
     let p = parts s m e k in
     let c = down e in
     let a = 32 * (m * up e) in
-    let j = scaled m e (p .1) in
+    let j = multiple m e (p .1) in
     let b : m * 2 ^ j .0 * c < 2 ^ 277 * c =
     subst (λ z. z < 2 ^ 277 * c) (j .1) (lt-of-lt-of-le (mul-lt-mul-of-pos-right l (pow-pos 149)) (le-of-eq (mul-right-comm (2 ^ 128) c (2 ^ 149)))) in
     rw (product-is s m e) (round-exact binary32 s a c m (j .0) (down-pos e) (p .0) (lt-of-mul-lt-mul-right c b) (j .1))
@@ -96,8 +96,8 @@ overflowed s a c C g =
     ∙ at-limit (grid binary32 a c) (2 ^ 149) (pow-pos 149) (le-trans (lit≤ tt) (grid-large a c C f))
     ∙ sym (at-limit a c C (le-trans (mul-le-mul-right c (lit≤ tt)) f))
 
--- So the product of any number of the format goes where the base's value of it is.
-pub times-32 : (x : Float) → T (fits binary32 x) → nearestLimited (mul binary32 x thirtyTwo) ≡ baseValue x
+-- So the product of any number of the format goes to its value with the fixed factor.
+pub times-32 : (x : Float) → T (fits binary32 x) → nearestLimited (mul binary32 x thirtyTwo) ≡ fixedValue x
 unfolding mul nearestLimited
 times-32 nan k = refl
 times-32 (inf s) k = ap (λ v. signed v 127) (sign-stays s)
@@ -110,7 +110,7 @@ times-32 (fin s m e) k =
     least : (a b : ℕ) → (a < b → ⊥) → b ≤ a
     least a b l = omega arith
 
-    go : Dec (32 * (m * up e) < 2 ^ 128 * down e) → limited (round binary32 s (32 * (m * up e)) (down e)) ≡ min 127 (baseSteps (fin s m e))
+    go : Dec (32 * (m * up e) < 2 ^ 128 * down e) → limited (round binary32 s (32 * (m * up e)) (down e)) ≡ min 127 (fixedSteps (fin s m e))
     go (yes l) =
         let a = 32 * (m * up e) in
         limited-of (round binary32 s a (down e)) s a (down e) (down-pos e) (rw (sym (product-is s m e)) (product-exact (fin s m e) tt k l))
