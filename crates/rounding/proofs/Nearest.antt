@@ -149,12 +149,12 @@ even-all (fin s m e) h n t d = far-even s (m * up e) (down e) (down-pos e) n t d
 
 -- ---- the theorem, of the product of an amplitude and a scale, rounded once in binary32
 
-module _ (scale x : Float) (h : T (finite (mul binary32 x scale))) where
-  -- Where it does not overflow, its steps, with its sign, are at least as near to it as any whole number n.
-  pub steps-nearest : (n : ℤ) → (let p = mul binary32 x scale in apart p (signed (isNegative p) (steps p)) ≤ apart p n)
-  steps-nearest n = near-all (mul binary32 x scale) h n
+-- Where it does not overflow, its steps, with its sign, are at least as near to it as any whole number n.
+pub steps-nearest : (scale x : Float) → (let p = mul binary32 x scale in
+    T (finite p) → (n : ℤ) → apart p (signed (isNegative p) (steps p)) ≤ apart p n)
+steps-nearest scale x = near-all (mul binary32 x scale)
 
-  -- Where another whole number is as near, the steps are even.
-  pub steps-even : (n : ℤ) → (let p = mul binary32 x scale in
-      apart p n ≡ apart p (signed (isNegative p) (steps p)) → (n ≡ signed (isNegative p) (steps p) → ⊥) → steps p % 2 ≡ 0)
-  steps-even n t d = even-all (mul binary32 x scale) h n t d
+-- Where another whole number is as near, the steps are even.
+pub steps-even : (scale x : Float) → (let p = mul binary32 x scale in
+    T (finite p) → (n : ℤ) → apart p n ≡ apart p (signed (isNegative p) (steps p)) → (n ≡ signed (isNegative p) (steps p) → ⊥) → steps p % 2 ≡ 0)
+steps-even scale x = even-all (mul binary32 x scale)

@@ -45,21 +45,24 @@ module _ (amplitudes : List Float) (blanked : List ℕ) (k : ℕ) (heard : bit (
       sound-finite (getD amplitudes k nan)
       (ap (λ x. not (finite x)) (sym own-amplitude) ∙ ap (λ m. offends m (k % 2)) (heard-mark amplitudes blanked (k / 2) heard) ∙ e)
 
--- A request that is accepted, and an amplitude k of a heard mark.
-module _ (scale : Float) (amplitudes : List Float) (blanked : List ℕ) (out : List ℤ) (a : (valuesFromMarks scale amplitudes blanked out) .0 ≡ done)
-    (k : ℕ) (l : k < 256) (heard : bit (unpack blanked) (k / 2) ≡ false) where
-  -- The value written at k is the soft value of the amplitude,
-  pub values-soft : getD ((valuesFromMarks scale amplitudes blanked out) .1) k (pos 0) ≡ softValue scale (getD amplitudes k nan)
-  unfolding valuesFromMarks
-  values-soft =
-      let f = valueAt scale amplitudes blanked in
-      after-at _ out (tabulate 256 f) 256 (length-tabulate 256 f) a k (pos 0) l ∙ tabulate-at 256 f k (pos 0) l ∙ heard-value amplitudes blanked k heard scale
+-- For every request that is accepted and every amplitude k of a heard mark: the value written at k is its soft value,
+pub values-soft : (scale : Float) (amplitudes : List Float) (blanked : List ℕ) (out : List ℤ) → (valuesFromMarks scale amplitudes blanked out) .0 ≡ done
+    → (k : ℕ) → k < 256 → bit (unpack blanked) (k / 2) ≡ false
+    → getD ((valuesFromMarks scale amplitudes blanked out) .1) k (pos 0) ≡ softValue scale (getD amplitudes k nan)
+unfolding valuesFromMarks
+values-soft scale amplitudes blanked out a k l heard =
+    let f = valueAt scale amplitudes blanked in
+    after-at _ out (tabulate 256 f) 256 (length-tabulate 256 f) a k (pos 0) l
+    ∙ tabulate-at 256 f k (pos 0) l
+    ∙ heard-value amplitudes blanked k heard scale
 
-  -- and lies within 1/2 + 1/131072 of the exact product of scale and amplitude, limited to -127 to 127.
-  pub values-near : NearProduct scale (getD amplitudes k nan) (getD ((valuesFromMarks scale amplitudes blanked out) .1) k (pos 0))
-  unfolding valuesFromMarks firstNotFinite
-  values-near =
-      let p = accepted scale amplitudes blanked out (ap isAccepted a) in
-      let x = getD amplitudes k nan in
-      let fine = heard-finite amplitudes blanked k heard (lowest-before 256 (notFinite amplitudes blanked) k (omega (arith, p .all-finite))) in
-      subst (λ (v : ℤ). NearProduct scale x v) (sym values-soft) (product-near scale x (p .scale-positive) fine)
+-- and lies within 1/2 + 1/131072 of the exact product of scale and amplitude, limited to -127 to 127.
+pub values-near : (scale : Float) (amplitudes : List Float) (blanked : List ℕ) (out : List ℤ) → (valuesFromMarks scale amplitudes blanked out) .0 ≡ done
+    → (k : ℕ) → k < 256 → bit (unpack blanked) (k / 2) ≡ false
+    → NearProduct scale (getD amplitudes k nan) (getD ((valuesFromMarks scale amplitudes blanked out) .1) k (pos 0))
+unfolding valuesFromMarks firstNotFinite
+values-near scale amplitudes blanked out a k l heard =
+    let p = accepted scale amplitudes blanked out (ap isAccepted a) in
+    let x = getD amplitudes k nan in
+    let fine = heard-finite amplitudes blanked k heard (lowest-before 256 (notFinite amplitudes blanked) k (omega (arith, p .all-finite))) in
+    subst (λ (v : ℤ). NearProduct scale x v) (sym (values-soft scale amplitudes blanked out a k l heard)) (product-near scale x (p .scale-positive) fine)
