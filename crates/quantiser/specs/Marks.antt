@@ -3,13 +3,13 @@ use mathlib.Core.Path.{_≡_}
 use mathlib.Core.Bool.{Bool, true, false, not}
 use mathlib.Core.List.{List}
 use Prim.Native.Nat.{ℕ, zero, suc, _+_, _*_, _/_, _%_}
-use lib.Ieee.{Float, nan, binary32, mul}
+use lib.Ieee.{Float, nan}
 use lib.Ieee.Scale.{finite}
 use lib.IntN.{ℤ, pos}
 use lib.ListN.{getD}
 use Rattle.base.specs.Bit.{bit}
 use Rattle.bits.specs.Packed.{unpack}
-use Rattle.rounding.specs.Rounding.{nearestLimited}
+use Rattle.soft_value.specs.Value.{softValue}
 use Rattle.quantiser.specs.declared.Symbol.{Symbol}
 use Rattle.quantiser.specs.declared.Mark.{Mark}
 use Rattle.quantiser.specs.declared.Mark.the-variants.{Heard, Blanked}
@@ -31,11 +31,6 @@ amplitude s (suc j) = s .q
 abbrev pub offends : Mark → ℕ → Bool
 offends (Heard s) j = not (finite (amplitude s j))
 offends Blanked j = false
-
--- The soft value of an amplitude, the paper's value of it: its product with the scale, rounded once in binary32, to the nearest
--- whole number, then to the range. A product that overflows is infinite there, and goes to 127 or -127 by its sign.
-abbrev pub softValue : Float → Float → ℤ
-softValue scale x = nearestLimited (mul binary32 x scale)
 
 -- Value j of a mark: the soft value of its amplitude, and 0 for a blanked one.
 abbrev pub valueOf : Float → Mark → ℕ → ℤ

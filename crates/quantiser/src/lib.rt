@@ -1,17 +1,13 @@
 // Values from marks: received marks to soft values.
 ghost use mathlib.Core.Path.{_≡_};
-ghost use mathlib.Core.Bool.{not};
 ghost use mathlib.Core.List.{_++_};
-ghost use Prim.Native.Nat.{ℕ, min, _≤_, _<_};
+ghost use Prim.Native.Nat.{_≤_, _<_};
 ghost use lib.Dec.{T};
-ghost use lib.Ieee.{binary32, isNan, ofBits};
 ghost use lib.Ieee.Positive.{positive};
-ghost use lib.Ieee.Scale.{finite};
 ghost use lib.ListN.{length, drop};
 ghost use Rattle.base.specs.Bit.{tabulate};
-ghost use Rattle.rounding.specs.Rounding.{rounded, limited, nearestLimited};
 ghost use Rattle.answer.specs.Verdict.{verdict, done, settle};
-ghost use Rattle.quantiser.specs.Marks.{markAt, offends, softValue, pairOf, lowest, firstNotFinite, Sound, valueAt};
+ghost use Rattle.quantiser.specs.Marks.{markAt, offends, pairOf, lowest, firstNotFinite, Sound, valueAt};
 ghost use Rattle.quantiser.specs.Jobs.{marksChecks, valuesFromMarks};
 use answer::Answer;
 
@@ -34,66 +30,6 @@ pub struct MarkValues {
     pub q: i8,
 }
 
-// w / 2^24 to the nearest whole number, limited to 127: less than a half is added, and a half where the whole part is odd.
-fn nearest(w: u32) -> u8
-    requires { ⌜ w < 2147483648 ⌝ }
-    ensures { λ r. ⌜ r ≡ min 127 (rounded w 16777216) ⌝ }
-{
-    let n = (w + 8388607 + w / 16777216 % 2) / 16777216;
-    if n < 127 { n as u8 } else { 127 }
-}
-
-// The limited size of the number whose pattern, without its sign, is given.
-fn magnitude(pattern: u32) -> u8
-    requires { ⌜ pattern ≤ 2139095040 ⌝ }
-    ensures { λ r. ⌜ r ≡ limited (ofBits binary32 pattern) ⌝ }
-{
-    let field = pattern / 8388608;
-    if field < 126 {
-        return 0;
-    }
-    if field >= 134 {
-        return 127;
-    }
-    let digits = pattern % 8388608 + 8388608;
-    nearest(digits << (field - 126))
-}
-
-// A product to the nearest whole number, limited to -127 to 127.
-fn nearest_limited(p: f32) -> i8
-    requires { ⌜ T (not (isNan p)) ⌝ }
-    ensures { λ r. ⌜ r ≡ nearestLimited p ⌝ }
-{
-    let pattern = f32::to_bits(p);
-    if pattern < 2147483648 {
-        magnitude(pattern) as i8
-    } else {
-        0 - (magnitude(pattern - 2147483648) as i8)
-    }
-}
-
-// The soft value of an amplitude.
-fn quantise(scale: f32, x: f32) -> i8
-    requires { ⌜ T (positive scale) × T (finite x) ⌝ }
-    ensures { λ r. ⌜ r ≡ softValue scale x ⌝ }
-{
-    nearest_limited(x * scale)
-}
-
-// Whether a number is neither a NaN nor infinite.
-fn is_finite(x: f32) -> bool
-    ensures { λ r. ⌜ r ≡ finite x ⌝ }
-{
-    if x < 1.0 / 0.0 { -1.0 / 0.0 < x } else { false }
-}
-
-// Whether a number is finite and above zero.
-fn is_positive(x: f32) -> bool
-    ensures { λ r. ⌜ r ≡ positive x ⌝ }
-{
-    if is_finite(x) { 0.0 < x } else { false }
-}
-
 // Mark n of a request.
 fn mark_at(amplitudes: &[f32], blanked: &[u8], n: usize) -> Mark
     requires { ⌜ (length (now amplitudes) ≡ 256) × (length (now blanked) ≡ 16) × (n < 128) ⌝ }
@@ -114,8 +50,8 @@ fn values_of(scale: f32, m: Mark) -> MarkValues
 {
     match m {
         Mark::Heard(s) => {
-            let i = quantise(scale, s.i);
-            let q = quantise(scale, s.q);
+            let i = soft_value::quantise(scale, s.i);
+            let q = soft_value::quantise(scale, s.q);
             MarkValues { i, q }
         }
         Mark::Blanked => MarkValues { i: 0, q: 0 },
@@ -128,10 +64,10 @@ fn offending(m: Mark) -> usize
 {
     match m {
         Mark::Heard(s) => {
-            if !is_finite(s.i) {
+            if !soft_value::is_finite(s.i) {
                 return 0;
             }
-            if is_finite(s.q) { 2 } else { 1 }
+            if soft_value::is_finite(s.q) { 2 } else { 1 }
         }
         Mark::Blanked => 2,
     }
@@ -183,7 +119,7 @@ fn marks_check(scale: f32, amplitudes: &[f32], blanked: &[u8], room: usize) -> A
     if room < 256 {
         return Answer::ShortOutput;
     }
-    if !is_positive(scale) {
+    if !soft_value::is_positive(scale) {
         return Answer::BadScale;
     }
     let place = first_not_finite(amplitudes, blanked);

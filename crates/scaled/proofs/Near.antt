@@ -15,9 +15,10 @@ use Rattle.base.proofs.List.{length-tabulate, tabulate-at}
 use Rattle.bits.specs.Packed.{unpack}
 use Rattle.answer.specs.Verdict.{done, isAccepted}
 use Rattle.answer.proofs.Written.{after-at}
+use Rattle.soft_value.specs.Value.{softValue}
 use Rattle.rounding.specs.Bound.{NearProduct}
 use Rattle.rounding.proofs.Bound.{product-near}
-use Rattle.quantiser.specs.Marks.{amplitude, offends, softValue, valueOf, notFinite, firstNotFinite, valueAt}
+use Rattle.quantiser.specs.Marks.{amplitude, offends, valueOf, notFinite, firstNotFinite, valueAt}
 use Rattle.quantiser.specs.Jobs.{valuesFromMarks}
 use Rattle.quantiser.proofs.Lowest.{lowest-before}
 use Rattle.quantiser.proofs.Request.{sound-finite, heard-mark}

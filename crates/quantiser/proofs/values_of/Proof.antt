@@ -3,7 +3,8 @@ use mathlib.Core.Path.{_≡_, sym, ap, ap₂, subst, _∙_}
 use mir.Syntax.{w8}
 use mir.Val.{toZ, ofZ}
 use mir.Facts.{toZ-ofZ}
-use Rattle.quantiser.specs.Marks.{softValue, pairOf, Sound}
+use Rattle.soft_value.specs.Value.{softValue}
+use Rattle.quantiser.specs.Marks.{pairOf, Sound}
 use Rattle.quantiser.proofs.Request.{sound-finite}
 use borrow.Author.Needs.{needs}
 use Rattle.quantiser.proofs.values_of.Statement.{statement}

@@ -1,10 +1,10 @@
--- `quantiser::is_finite` meets its contract. Assumes nothing.
+-- `soft_value::is_finite` meets its contract. Assumes nothing.
 use mathlib.Core.Path.{_≡_, refl, sym}
 use mathlib.Core.Bool.{true, false}
 use lib.Ieee.{Float, nan, inf, fin, lt, div, neg, ofBits}
 use lib.Ieee.Scale.{finite}
-use Rattle.quantiser.proofs.is_finite.Statement.{statement}
-use Rattle.quantiser.proofs.is_finite.Tie as tie
+use Rattle.soft_value.proofs.is_finite.Statement.{statement}
+use Rattle.soft_value.proofs.is_finite.Tie as tie
 
 above : (x : Float) → lt x (inf false) ≡ true → lt (inf true) x ≡ finite x
 unfolding lt

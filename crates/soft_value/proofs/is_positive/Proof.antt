@@ -1,4 +1,4 @@
--- `quantiser::is_positive` meets its contract, number by number. Assumes nothing.
+-- `soft_value::is_positive` meets its contract, number by number. Assumes nothing.
 use mathlib.Core.Path.{_≡_, refl, sym, ap, ap₂, _∙_}
 use mathlib.Core.Bool.{true, false, true≢false}
 use Prim.Native.Nat.{ℕ, zero, suc, _*_, _<_}
@@ -12,8 +12,8 @@ use lib.Ieee.Fits.{up-pos}
 use lib.Ieee.Positive.{positive}
 use lib.Ieee.Scale.{finite}
 use borrow.Author.Needs.{needs}
-use Rattle.quantiser.proofs.is_positive.Statement.{statement}
-use Rattle.quantiser.proofs.is_positive.Tie as tie
+use Rattle.soft_value.proofs.is_positive.Statement.{statement}
+use Rattle.soft_value.proofs.is_positive.Tie as tie
 
 -- A number above zero has digits.
 digits : (m u : ℕ) → 0 < u → ltb 0 (m * u) ≡ ltb 0 m

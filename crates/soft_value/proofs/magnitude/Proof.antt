@@ -1,11 +1,11 @@
--- `quantiser::magnitude` meets its contract, by the exponent field of the pattern. Assumes nothing.
+-- `soft_value::magnitude` meets its contract, by the exponent field of the pattern. Assumes nothing.
 use mathlib.Core.Path.{sym, ap, _∙_}
 use Prim.Native.Nat.{_/_, min, _≤_, _<_}
 use Rattle.rounding.specs.Rounding.{rounded}
 use Rattle.rounding.proofs.Patterns.{limited-low, limited-mid, limited-high, shifted, shifted-lt}
 use borrow.Author.Needs.{needs}
-use Rattle.quantiser.proofs.magnitude.Statement.{statement}
-use Rattle.quantiser.proofs.magnitude.Tie as tie
+use Rattle.soft_value.proofs.magnitude.Statement.{statement}
+use Rattle.soft_value.proofs.magnitude.Tie as tie
 
 returns : tie.Need-returns
 returns c = sym (limited-low (c .before .args .pattern) (c .before .pre) (c .if1 .taken))

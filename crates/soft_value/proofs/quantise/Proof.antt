@@ -1,12 +1,12 @@
--- `quantiser::quantise` meets its contract: the language rounds a product once. Assumes nothing.
+-- `soft_value::quantise` meets its contract: the language rounds a product once. Assumes nothing.
 use mathlib.Core.Path.{_∙_}
 use lib.Ieee.{ofBits}
 use lib.Ieee.Positive.{positive-finite}
 use mir.Syntax.{w8}
 use mir.Facts.{toZ-ofZ}
 use Rattle.rounding.proofs.Products.{product-real}
-use Rattle.quantiser.proofs.quantise.Statement.{statement}
-use Rattle.quantiser.proofs.quantise.Tie as tie
+use Rattle.soft_value.proofs.quantise.Statement.{statement}
+use Rattle.soft_value.proofs.quantise.Tie as tie
 
 -- The product is a number, whatever finite factor the code takes.
 nearest-limited-requires : tie.Need-nearest-limited-requires

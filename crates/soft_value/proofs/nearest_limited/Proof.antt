@@ -1,4 +1,4 @@
--- `quantiser::nearest_limited` meets its contract: the pattern without its sign gives the size. Assumes nothing.
+-- `soft_value::nearest_limited` meets its contract: the pattern without its sign gives the size. Assumes nothing.
 use mathlib.Core.Path.{_≡_, sym, ap, _∙_, subst}
 use mathlib.Core.Bool.{true, false}
 use Prim.Native.Nat.{ℕ, zero, suc, _-_, _%_, _≤_, _<_}
@@ -16,8 +16,8 @@ use borrow.Author.Needs.{needs}
 use Rattle.rounding.specs.Rounding.{limited, signed, isNegative, nearestLimited}
 use Rattle.rounding.proofs.Rounded.{limited-le}
 use Rattle.rounding.proofs.Patterns.{limited-bits, pattern-le, pattern-lt, negative-bits}
-use Rattle.quantiser.proofs.nearest_limited.Statement.{statement}
-use Rattle.quantiser.proofs.nearest_limited.Tie as tie
+use Rattle.soft_value.proofs.nearest_limited.Statement.{statement}
+use Rattle.soft_value.proofs.nearest_limited.Tie as tie
 
 held : (c : tie.Start) → T (fits binary32 (c .args .p))
 held c = subst T (sym (c .good .0 .1)) tt

@@ -1,9 +1,9 @@
--- `quantiser::nearest` meets its contract. Assumes nothing.
+-- `soft_value::nearest` meets its contract. Assumes nothing.
 use native.Mathlib.Omega.{arith}
 use Rattle.rounding.proofs.Rounded.{rounded-sum}
 use borrow.Author.Needs.{needs}
-use Rattle.quantiser.proofs.nearest.Statement.{statement}
-use Rattle.quantiser.proofs.nearest.Tie as tie
+use Rattle.soft_value.proofs.nearest.Statement.{statement}
+use Rattle.soft_value.proofs.nearest.Tie as tie
 
 add-n : tie.Need-add-n
 add-n c = search needs
