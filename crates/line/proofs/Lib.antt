@@ -1,5 +1,2 @@
-pub mod Stored
-pub mod Text
 pub mod Complement
 pub mod Printed
-pub mod Reading

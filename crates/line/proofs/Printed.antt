@@ -1,12 +1,13 @@
--- What is printed of frame decode's result, and of an input of 290 bytes or another length. Assumes nothing.
+-- What is printed of frame decode's result, and of an input of 290 bytes or another length; what a caller needs to lend it on.
+-- Assumes nothing.
 use mathlib.Core.Path.{_≡_, sym, ap, _∙_}
 use mathlib.Core.Bool.{true, false}
-use mathlib.Core.List.{List, map}
+use mathlib.Core.List.{List, _++_, map}
 use Prim.Native.Nat.{ℕ, _-_, _≤_}
 use native.Mathlib.Omega.{arith}
 use borrow.Author.Tests.{eq-eqb, ne-eqb}
 use lib.IntN.{ℤ, pos}
-use lib.ListN.{length, getD, take, drop, replicate, length-drop}
+use lib.ListN.{length, getD, take, drop, replicate, length-append, length-drop}
 use lib.Seq.{length-take-le, take-all}
 use Rattle.answer.specs.Verdict.{Verdict, isAccepted, numberOf, placeOf}
 use Rattle.mask.specs.Mask.{partLength, payloadPart}
@@ -57,3 +58,9 @@ pub line-whole : (input : List ℕ) → length input ≡ 290 → line input ≡ 
 unfolding line
 line-whole input n =
     ap (λ c. elim c as (λ _. List ℕ) [ true ↦ lineOf (maskOf input) (decodeOf input) | false ↦ refusedLine 2 0 ]) (eq-eqb (length input) 290 n)
+
+-- What was put at the start of a buffer is its front: what a caller owes of the part that it lends on.
+pub front-fits : (xs : List ℕ) (e : ℕ) (old new : List ℕ) → (e ≡ length xs) × (new ≡ xs ++ drop e old) → (e ≤ length new) × (e ≡ length (take e new))
+front-fits xs e old new p =
+    let n : e ≤ length new = omega (arith, p .0, ap length (p .1) ∙ length-append xs (drop e old)) in
+    (n, sym (length-take-le e new n))

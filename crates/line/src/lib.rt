@@ -1,77 +1,24 @@
 // What `linkline` prints, from all that it reads: one function from the bytes of the input to a buffer.
 ghost use mathlib.Core.Path.{_≡_};
 ghost use mathlib.Core.List.{_++_, map};
-ghost use Prim.Native.Nat.{_+_, _≤_, _<_};
+ghost use Prim.Native.Nat.{_≤_};
 ghost use lib.ListN.{length, drop};
 ghost use Rattle.answer.specs.Verdict.{verdict, numberOf, placeOf};
-ghost use Rattle.line.specs.Line.{hexDigit, decimal, hexadecimal, okLines, refusedLine, lineOf, signedByte, maskOf, decodeOf};
+ghost use Rattle.text.specs.Put.{Put};
+ghost use Rattle.line.specs.Line.{okLines, refusedLine, lineOf, signedByte, maskOf, decodeOf};
 ghost use Rattle.line.specs.Line.{line as Line·line};
-ghost use Rattle.line.specs.Put.{Put};
 use answer::Answer;
-
-// The ASCII code of a digit below 16.
-fn digit(d: u8) -> u8
-    requires { ⌜ d < 16 ⌝ }
-    ensures { λ r. ⌜ r ≡ hexDigit d ⌝ }
-{
-    if d < 10 { 48 + d } else { 87 + d }
-}
-
-// Puts bytes at an index, and answers where they end.
-fn put(bytes: &[u8], at: usize, out: &mut [u8]) -> usize
-    requires { ⌜ at + length (now bytes) ≤ length (now out) ⌝ }
-    ensures { λ r. ⌜ Put (now (bytes .entry)) at r (now (out .entry)) (now (out .exit)) ⌝ }
-{
-    let mut end = at;
-    let mut i: usize = 0;
-    while i < bytes.len() {
-        out[end] = bytes[i];
-        end += 1;
-        i += 1;
-    }
-    end
-}
-
-// Puts a number in decimal.
-fn put_decimal(n: u64, at: usize, out: &mut [u8]) -> usize
-    requires { ⌜ at + length (decimal n) ≤ length (now out) ⌝ }
-    ensures { λ r. ⌜ Put (decimal n) at r (now (out .entry)) (now (out .exit)) ⌝ }
-{
-    if n < 10 {
-        out[at] = digit(n as u8);
-        return at + 1;
-    }
-    let end = put_decimal(n / 10, at, out);
-    out[end] = digit((n % 10) as u8);
-    end + 1
-}
-
-// Puts bytes in small hexadecimal.
-fn put_hexadecimal(bytes: &[u8], at: usize, out: &mut [u8]) -> usize
-    requires { ⌜ at + length (hexadecimal (now bytes)) ≤ length (now out) ⌝ }
-    ensures { λ r. ⌜ Put (hexadecimal (now (bytes .entry))) at r (now (out .entry)) (now (out .exit)) ⌝ }
-{
-    let mut end = at;
-    let mut i: usize = 0;
-    while i < bytes.len() {
-        out[end] = digit(bytes[i] / 16);
-        out[end + 1] = digit(bytes[i] % 16);
-        end += 2;
-        i += 1;
-    }
-    end
-}
 
 // Puts the line of a refusal. Each name is where its part ends.
 fn put_refused(a: Answer, out: &mut [u8]) -> usize
     requires { ⌜ length (now out) ≡ 74 ⌝ }
     ensures { λ r. ⌜ Put (refusedLine (numberOf (verdict a)) (placeOf (verdict a))) 0 r (now (out .entry)) (now (out .exit)) ⌝ }
 {
-    let head = put(b"refused ", 0, out);
-    let number = put_decimal(answer::number(a) as u64, head, out);
-    let space = put(b" ", number, out);
-    let place = put_decimal(answer::place(a) as u64, space, out);
-    put(b"\n", place, out)
+    let head = text::put(b"refused ", 0, out);
+    let number = text::put_decimal(answer::number(a) as u64, head, out);
+    let space = text::put(b" ", number, out);
+    let place = text::put_decimal(answer::place(a) as u64, space, out);
+    text::put(b"\n", place, out)
 }
 
 // Puts the lines of a decoded frame. Each name is where its part ends. The longest lines are of five digits and 32 bytes:
@@ -80,11 +27,11 @@ fn put_ok(penalty: u16, payload: &[u8], out: &mut [u8]) -> usize
     requires { ⌜ (length (now payload) ≤ 32) × (length (now out) ≡ 74) ⌝ }
     ensures { λ r. ⌜ Put (okLines penalty (now (payload .entry))) 0 r (now (out .entry)) (now (out .exit)) ⌝ }
 {
-    let head = put(b"ok ", 0, out);
-    let number = put_decimal(penalty as u64, head, out);
-    let first = put(b"\n", number, out);
-    let bytes = put_hexadecimal(payload, first, out);
-    put(b"\n", bytes, out)
+    let head = text::put(b"ok ", 0, out);
+    let number = text::put_decimal(penalty as u64, head, out);
+    let first = text::put(b"\n", number, out);
+    let bytes = text::put_hexadecimal(payload, first, out);
+    text::put(b"\n", bytes, out)
 }
 
 // A value byte in two's complement.

@@ -1,7 +1,7 @@
 -- `console::linkline` is safe: what is printed is the front of the buffer. Assumes nothing.
 use lib.ListN.{take, replicate}
 use Rattle.line.specs.Line.{line}
-use Rattle.line.proofs.Stored.{front-fits}
+use Rattle.line.proofs.Printed.{front-fits}
 use borrow.Author.Needs.{needs}
 use Rattle.console.proofs.linkline.Statement.{statement}
 use Rattle.console.proofs.linkline.Tie as tie

@@ -1,8 +1,8 @@
 -- `line::line` meets its contract: another length than 290 is refused, and 290 bytes are decoded. Assumes nothing.
 use native.Mathlib.Omega.{arith}
 use borrow.Author.Needs.{needs}
+use Rattle.text.proofs.Stored.{put-first}
 use Rattle.line.specs.Line.{refusedLine, lineOf, maskOf, decodeOf, line}
-use Rattle.line.proofs.Stored.{put-first}
 use Rattle.line.proofs.Printed.{line-other, line-whole}
 use Rattle.line.proofs.line.Statement.{statement}
 use Rattle.line.proofs.line.Tie as tie

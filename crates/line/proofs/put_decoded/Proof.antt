@@ -5,8 +5,8 @@ use Prim.Native.Nat.{ℕ, _≤_}
 use borrow.Author.Tests.{not-true, not-false}
 use lib.ListN.{length, getD}
 use Rattle.answer.specs.Verdict.{verdict}
+use Rattle.text.specs.Put.{Put}
 use Rattle.line.specs.Line.{okLines, lineOf, maskOf, decodeOf}
-use Rattle.line.specs.Put.{Put}
 use Rattle.line.proofs.Printed.{part-short, line-refused, line-accepted, decode-is}
 use borrow.Author.Needs.{needs}
 use Rattle.line.proofs.put_decoded.Statement.{statement}

@@ -3,15 +3,16 @@ use mathlib.Core.List.{_++_}
 use Prim.Native.Nat.{_≤_}
 use native.Mathlib.Omega.{arith}
 use lib.ListN.{length}
-use Rattle.line.specs.Line.{okText, space, newline, decimal, hexadecimal, okLines}
-use Rattle.line.proofs.Stored.{put-five}
-use Rattle.line.proofs.Text.{decimal-short, length-hexadecimal}
+use Rattle.text.specs.Text.{decimal, hexadecimal}
+use Rattle.text.proofs.Stored.{put-five}
+use Rattle.text.proofs.Text.{decimal-short, length-hexadecimal}
+use Rattle.line.specs.Line.{okText, space, newline, okLines}
 use borrow.Author.Needs.{needs}
 use Rattle.line.proofs.put_ok.Statement.{statement}
 use Rattle.line.proofs.put_ok.Tie as tie
-use Rattle.line.proofs.put.Reads as put-reads
-use Rattle.line.proofs.put_decimal.Reads as put-decimal-reads
-use Rattle.line.proofs.put_hexadecimal.Reads as put-hexadecimal-reads
+use Rattle.text.proofs.put.Reads as put-reads
+use Rattle.text.proofs.put_decimal.Reads as put-decimal-reads
+use Rattle.text.proofs.put_hexadecimal.Reads as put-hexadecimal-reads
 
 -- A penalty has at most five digits,
 digits : (s : tie.Start) → length (decimal (s .args .penalty)) ≤ 5

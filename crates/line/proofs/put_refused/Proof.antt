@@ -3,16 +3,17 @@ use mathlib.Core.List.{_++_}
 use Prim.Native.Nat.{ℕ, _^_, _≤_, _<_}
 use native.Mathlib.Omega.{arith}
 use lib.ListN.{length}
-use Rattle.line.specs.Line.{refusedText, space, newline, decimal, refusedLine}
-use Rattle.line.proofs.Stored.{put-five}
-use Rattle.line.proofs.Text.{decimal-short}
+use Rattle.text.specs.Text.{decimal}
+use Rattle.text.proofs.Stored.{put-five}
+use Rattle.text.proofs.Text.{decimal-short}
+use Rattle.line.specs.Line.{refusedText, space, newline, refusedLine}
 use borrow.Author.Needs.{needs}
 use Rattle.line.proofs.put_refused.Statement.{statement}
 use Rattle.line.proofs.put_refused.Tie as tie
 use Rattle.answer.proofs.number.Reads as number-reads
 use Rattle.answer.proofs.place.Reads as place-reads
-use Rattle.line.proofs.put.Reads as put-reads
-use Rattle.line.proofs.put_decimal.Reads as put-decimal-reads
+use Rattle.text.proofs.put.Reads as put-reads
+use Rattle.text.proofs.put_decimal.Reads as put-decimal-reads
 
 -- A number of a condition has at most three digits,
 digits-3 : (n : ℕ) → n < 2 ^ 8 → length (decimal n) ≤ 3

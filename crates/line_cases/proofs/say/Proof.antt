@@ -1,7 +1,7 @@
 -- `line_cases::say` is safe: what is printed is the front of the buffer. Assumes nothing.
 use lib.ListN.{replicate}
 use Rattle.line.specs.Line.{line}
-use Rattle.line.proofs.Stored.{front-fits}
+use Rattle.line.proofs.Printed.{front-fits}
 use borrow.Author.Needs.{needs}
 use Rattle.line_cases.proofs.say.Statement.{statement}
 use Rattle.line_cases.proofs.say.Tie as tie

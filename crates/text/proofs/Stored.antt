@@ -7,7 +7,7 @@ use native.Mathlib.Numerals.{add-one}
 use native.Mathlib.Omega.{arith}
 use lib.ListN.{length, getD, take, drop, set, length-append, length-drop, take-append-drop}
 use lib.Seq.{length-take-le, take-suc, drop-cons, append-snoc, set-at, take-at, drop-at, drop-drop}
-use Rattle.line.specs.Put.{stored, Put}
+use Rattle.text.specs.Put.{stored, Put}
 
 -- What stands before the end of the bytes that were put.
 length-front : (xs : List ℕ) (at : ℕ) (old : List ℕ) → at ≤ length old → length (take at old ++ xs) ≡ at + length xs
@@ -71,12 +71,6 @@ pub put-first : (xs ys : List ℕ) (e : ℕ) (old new : List ℕ) → ys ≡ xs 
 put-first xs ys e old new q p =
     let k : e ≡ length xs = omega (arith, p .0) in
     (k ∙ ap length (sym q), p .1 ∙ ap₂ (λ (zs : List ℕ) n. zs ++ drop n old) (sym q) (sym (p .0)))
-
--- What was put there is the front of the buffer: what a caller owes of the part that it lends on.
-pub front-fits : (xs : List ℕ) (e : ℕ) (old new : List ℕ) → (e ≡ length xs) × (new ≡ xs ++ drop e old) → (e ≤ length new) × (e ≡ length (take e new))
-front-fits xs e old new p =
-    let n : e ≤ length new = omega (arith, p .0, ap length (p .1) ∙ length-append xs (drop e old)) in
-    (n, sym (length-take-le e new n))
 
 -- A loop has put i of the bytes, and puts the next.
 pub put-next : (bytes : List ℕ) (at end i : ℕ) (old out : List ℕ) → i < length bytes → at + length bytes ≤ length old → end ≡ at + i

@@ -1,18 +1,18 @@
--- `line::put_hexadecimal` meets its contract: the first i bytes are put. Assumes nothing.
+-- `text::put_hexadecimal` meets its contract: the first i bytes are put. Assumes nothing.
 use mathlib.Core.Path.{_≡_, refl, ap, ap₂, _∙_}
 use mathlib.Core.List.{List}
 use Prim.Native.Nat.{ℕ, _+_, _-_, _*_, _≤_}
 use native.Mathlib.Omega.{arith}
 use lib.ListN.{length, take, set}
 use lib.Seq.{lt-length-set, take-length}
-use Rattle.line.specs.Line.{hexadecimal}
-use Rattle.line.specs.Put.{stored}
-use Rattle.line.proofs.Stored.{stored-none}
-use Rattle.line.proofs.Text.{length-hexadecimal, hexadecimal-put}
+use Rattle.text.specs.Text.{hexadecimal}
+use Rattle.text.specs.Put.{stored}
+use Rattle.text.proofs.Stored.{stored-none}
+use Rattle.text.proofs.Text.{length-hexadecimal, hexadecimal-put}
 use borrow.Author.Needs.{needs}
-use Rattle.line.proofs.put_hexadecimal.Statement.{statement}
-use Rattle.line.proofs.put_hexadecimal.Tie as tie
-use Rattle.line.proofs.digit.Reads as digit-reads
+use Rattle.text.proofs.put_hexadecimal.Statement.{statement}
+use Rattle.text.proofs.put_hexadecimal.Tie as tie
+use Rattle.text.proofs.digit.Reads as digit-reads
 
 abbrev Inv-loop : tie.InvT-loop
 Inv-loop bytes at out₀ end₀ i₀ out end i = (i ≤ length bytes) × (end ≡ at + 2 * i) × (length out ≡ length out₀) × (out ≡ stored (hexadecimal (take i bytes)) at out₀)

@@ -1,19 +1,19 @@
--- The cycle of calls of `line::put_decimal` meets its contract: the digits of the tenth, then the last one; the number falls. Assumes nothing.
+-- The cycle of calls of `text::put_decimal` meets its contract: the digits of the tenth, then the last one; the number falls. Assumes nothing.
 use mathlib.Core.Path.{ap, subst}
 use Prim.Native.Nat.{ℕ, _+_, _/_, _≤_, _<_}
 use native.Mathlib.Omega.{arith}
 use lib.ListN.{length}
-use Rattle.line.specs.Line.{decimal}
-use Rattle.line.proofs.Text.{decimal-one, length-more, put-one, room-last, put-last}
+use Rattle.text.specs.Text.{decimal}
+use Rattle.text.proofs.Text.{decimal-one, length-more, put-one, room-last, put-last}
 use borrow.Author.Needs.{needs}
 use borrow.Fn.Kinds.{In}
 use borrow.Fn.PlainCycle.{Measures, is, falls, and}
-use Rattle.line.proofs.put_decimal.Reads as put-decimal
-use Rattle.line.proofs.put_decimal.Kinds as put-decimal-kinds
-use Rattle.line.proofs.+put_decimal.Lts-put_decimal as put-decimal-lts
-use Rattle.line.proofs.digit.Reads as digit-reads
-use Rattle.line.proofs.+put_decimal.{statement}
-use Rattle.line.proofs.+put_decimal.Tie.{close}
+use Rattle.text.proofs.put_decimal.Reads as put-decimal
+use Rattle.text.proofs.put_decimal.Kinds as put-decimal-kinds
+use Rattle.text.proofs.+put_decimal.Lts-put_decimal as put-decimal-lts
+use Rattle.text.proofs.digit.Reads as digit-reads
+use Rattle.text.proofs.+put_decimal.{statement}
+use Rattle.text.proofs.+put_decimal.Tie.{close}
 
 abbrev μ-put-decimal : Measures 1 put-decimal-kinds.ps ℕ
 μ-put-decimal κs a = a .0

@@ -11,9 +11,9 @@ use borrow.Author.Tests.{ltb-false, lt-ltb, le-ltb}
 use lib.Dec.{ltb}
 use lib.ListN.{length, getD, take, set, length-append}
 use lib.Seq.{length-take-le, take-suc}
-use Rattle.line.specs.Line.{hexDigit, decimalWithin, decimal, hexadecimal}
-use Rattle.line.specs.Put.{stored, Put}
-use Rattle.line.proofs.Stored.{length-stored, stored-none, stored-next}
+use Rattle.text.specs.Text.{hexDigit, decimalWithin, decimal, hexadecimal}
+use Rattle.text.specs.Put.{stored, Put}
+use Rattle.text.proofs.Stored.{length-stored, stored-none, stored-next}
 
 -- ---- digits
 

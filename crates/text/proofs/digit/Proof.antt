@@ -1,8 +1,8 @@
--- `line::digit` meets its contract. Assumes nothing.
-use Rattle.line.proofs.Text.{digit-low, digit-high}
+-- `text::digit` meets its contract. Assumes nothing.
+use Rattle.text.proofs.Text.{digit-low, digit-high}
 use borrow.Author.Needs.{needs}
-use Rattle.line.proofs.digit.Statement.{statement}
-use Rattle.line.proofs.digit.Tie as tie
+use Rattle.text.proofs.digit.Statement.{statement}
+use Rattle.text.proofs.digit.Tie as tie
 
 add-result : tie.Need-add-result
 add-result c = search needs

@@ -1,15 +1,15 @@
--- `line::put` meets its contract: the first i bytes are put. Assumes nothing.
+-- `text::put` meets its contract: the first i bytes are put. Assumes nothing.
 use mathlib.Core.Path.{_≡_, refl, ap, _∙_}
 use mathlib.Core.List.{List}
 use Prim.Native.Nat.{ℕ, _+_, _-_, _≤_}
 use native.Mathlib.Omega.{arith}
 use lib.ListN.{length, take}
 use lib.Seq.{take-length}
-use Rattle.line.specs.Put.{stored}
-use Rattle.line.proofs.Stored.{stored-none, put-next}
+use Rattle.text.specs.Put.{stored}
+use Rattle.text.proofs.Stored.{stored-none, put-next}
 use borrow.Author.Needs.{needs}
-use Rattle.line.proofs.put.Statement.{statement}
-use Rattle.line.proofs.put.Tie as tie
+use Rattle.text.proofs.put.Statement.{statement}
+use Rattle.text.proofs.put.Tie as tie
 
 abbrev Inv-loop : tie.InvT-loop
 Inv-loop bytes at out₀ end₀ i₀ out end i = (i ≤ length bytes) × (end ≡ at + i) × (length out ≡ length out₀) × (out ≡ stored (take i bytes) at out₀)

@@ -9,8 +9,8 @@ use native.Mathlib.Omega.{arith}
 use borrow.Author.Tests.{lt-ltb, le-ltb}
 use lib.Dec.{ltb}
 use lib.ListN.{length, getD}
-use Rattle.line.specs.Line.{hexDigit, decimal, hexadecimal}
-use Rattle.line.proofs.Text.{digit-low, digit-high, decimal-one, decimal-more}
+use Rattle.text.specs.Text.{hexDigit, decimal, hexadecimal}
+use Rattle.text.proofs.Text.{digit-low, digit-high, decimal-one, decimal-more}
 
 -- The number of a digit's ASCII code, of small hexadecimal.
 abbrev pub worth : ℕ → ℕ
