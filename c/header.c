@@ -10,8 +10,8 @@
 
 #include "nospridda.h"
 
-#if NOSPRIDDA_VERSION != 2
-#error "c/header.c is for version 2 of the header"
+#if NOSPRIDDA_VERSION != 3
+#error "c/header.c is for version 3 of the header"
 #endif
 
 /* The header's sizes under shorter names. */
@@ -222,7 +222,7 @@ static void marks(void)
     memset(values, 1, sizeof values);
     outcome(nospridda_values_from_marks(32.0f, amplitudes, SYMBOLS, blanked, sizeof blanked, values, SYMBOLS),
             NOSPRIDDA_ACCEPTED, 0, "values from marks");
-    expect(values[0] == 32 && values[1] == 0 && values[2] == 2 && values[3] == -127, "the values of four amplitudes");
+    expect(values[0] == 32 && values[1] == 1 && values[2] == 2 && values[3] == -127, "the values of four amplitudes");
     for (i = 4; i < SYMBOLS; i++) {
         expect(values[i] == 0, "the values of amplitudes 0");
     }

@@ -53,7 +53,7 @@
 /* The version of this interface. It goes up by one with every change of a
  * declaration, a number, a size or a result that callers could rely on. What is
  * only added leaves it as it is. */
-#define NOSPRIDDA_VERSION 2
+#define NOSPRIDDA_VERSION 3
 
 /* Sizes, in elements of the buffer that they are for. */
 #define NOSPRIDDA_KERNEL_BITS 16  /* symbols, bits, values and scores of a kernel */
@@ -257,10 +257,10 @@ struct nospridda_outcome nospridda_information_mask(
  *
  * A blanked mark gives 0 and 0; its amplitudes are not looked at and may be
  * anything, NaN too. A heard amplitude times the scale is rounded once in float
- * and then goes to the nearest whole number, a half to the even neighbour, then
- * to the range -127 to 127; a product that overflows float goes to 127 or -127
- * by its sign, and minus zero gives 0. Each value of a heard mark lies within
- * 1/2 + 1/131072 of the exact product limited to -127 to 127.
+ * and then goes to the nearest whole number, a half to the neighbour farther
+ * from zero, then to the range -127 to 127; a product that overflows float goes
+ * to 127 or -127 by its sign, and minus zero gives 0. Each value of a heard mark
+ * lies within 1/2 + 1/131072 of the exact product limited to -127 to 127.
  *
  * Answers 0, or, with values left as they were,
  *   2  amplitudes_length is not 256, or blanked_length is not 16;

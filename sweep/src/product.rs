@@ -34,13 +34,18 @@ pub fn is_subnormal(pattern: u32) -> bool {
 /// Whether a whole part goes up, by how the rest lies to a half.
 pub type Rule = fn(u64, Ordering) -> bool;
 
-/// To the nearest; a half to the even neighbour.
+/// To the nearest, a half to the even neighbour: the rounding of f32.
 pub fn half_to_even(whole: u64, rest: Ordering) -> bool {
     match rest {
         Ordering::Less => false,
         Ordering::Equal => whole % 2 == 1,
         Ordering::Greater => true,
     }
+}
+
+/// To the nearest, a half to the neighbour farther from zero.
+pub fn half_outward(_: u64, rest: Ordering) -> bool {
+    rest.is_ge()
 }
 
 /// Digits without the last ones, that is divided by 2^dropped, to a whole number by a rule. Above 62 it is 62 that are
@@ -132,8 +137,8 @@ pub struct Way {
     pub factors: fn(u32, u32) -> (u32, u32),
     /// How the product is rounded in f32, if it is.
     pub product: Option<Rule>,
-    /// How it goes to a whole number.
-    pub whole: Rule,
+    /// How it goes to a whole number, above zero and below it.
+    pub whole: [Rule; 2],
     /// What an overflowed product goes to.
     pub overflowed: u64,
     /// Where the range begins; it ends at 127.
@@ -144,7 +149,7 @@ pub struct Way {
 pub const TRUE: Way = Way {
     factors: |scale, amplitude| (scale, amplitude),
     product: Some(half_to_even),
-    whole: half_to_even,
+    whole: [half_outward; 2],
     overflowed: 127,
     lowest: -127,
 };
@@ -163,12 +168,14 @@ impl Way {
             Some(rule) => exact.in_f32(rule),
             None => Some(exact),
         };
-        let size = product.map_or(self.overflowed, |product| product.whole(self.whole));
+        let is_negative = amplitude & SIGN != 0;
+        let rule = self.whole[usize::from(is_negative)];
+        let size = product.map_or(self.overflowed, |product| product.whole(rule));
         let size = size.min(1000) as i16;
-        if amplitude & SIGN == 0 {
-            size.min(127)
-        } else {
+        if is_negative {
             (-size).max(self.lowest)
+        } else {
+            size.min(127)
         }
     }
 }

@@ -3,8 +3,8 @@
 use crate::library::Outcome;
 use crate::marks::steps;
 use crate::product::{
-    distance, half_to_even, is_bounded, is_scale, is_subnormal, near, value, Size, Way, EXACT,
-    LARGEST, ONE, OVERFLOW, SMALLEST, THIRTY_TWO, TRUE,
+    distance, half_outward, half_to_even, is_bounded, is_scale, is_subnormal, near, value, Rule,
+    Size, Way, EXACT, LARGEST, ONE, OVERFLOW, SMALLEST, THIRTY_TWO, TRUE,
 };
 use crate::random::Random;
 use crate::request::{
@@ -76,13 +76,13 @@ fn half_steps(tally: &mut Tally, random: &mut Random) {
     tally.group(name, cases);
 }
 
-/// Amplitudes above zero whose exact products are no half, and are one when rounded in f32; with the even neighbour of
+/// Amplitudes above zero whose exact products are no half, and are one when rounded in f32; with the outer neighbour of
 /// that half, in range.
 fn rounded_onto_halves(scale: u32) -> Vec<(u32, i8)> {
     let mut found = Vec::new();
     for whole in 0..130u8 {
         let half = halves(2 * u64::from(whole) + 1);
-        let even = (whole + whole % 2).min(127) as i8;
+        let outer = (whole + 1).min(127) as i8;
         found.extend(
             near(scale, half, 2)
                 .into_iter()
@@ -91,13 +91,13 @@ fn rounded_onto_halves(scale: u32) -> Vec<(u32, i8)> {
                     let rounded = exact.in_f32(half_to_even);
                     exact.cmp(half).is_ne() && rounded.is_some_and(|r| r.cmp(half).is_eq())
                 })
-                .map(|x| (x, even)),
+                .map(|x| (x, outer)),
         );
     }
     found
 }
 
-/// Products that the rounding in f32 puts onto a half go to its even neighbour, whichever neighbour is nearer.
+/// Products that the rounding in f32 puts onto a half go to its outer neighbour, whichever neighbour is nearer.
 fn onto_halves(tally: &mut Tally, random: &mut Random) {
     let name = "products rounded onto a half";
     let (mut cases, mut elsewhere) = (0, 0u64);
@@ -106,15 +106,15 @@ fn onto_halves(tally: &mut Tally, random: &mut Random) {
         for some in rounded_onto_halves(scale).chunks(128) {
             let patterns: Vec<u32> = some.iter().flat_map(|&(x, _)| both_signs(x)).collect();
             let (_, buffer) = Request::heard(scale, &patterns).compare(tally, name);
-            for (i, &(x, even)) in some.iter().enumerate() {
+            for (i, &(x, outer)) in some.iter().enumerate() {
                 tally.expect(
-                    buffer[2 * i..2 * i + 2] == [even, -even],
+                    buffer[2 * i..2 * i + 2] == [outer, -outer],
                     format_args!(
-                        "{scale:08x} times {x:08x}: wanted {even}, got {}",
+                        "{scale:08x} times {x:08x}: wanted {outer}, got {}",
                         buffer[2 * i]
                     ),
                 );
-                elsewhere += 2 * u64::from(EXACT.value(scale, x) != i16::from(even));
+                elsewhere += 2 * u64::from(EXACT.value(scale, x) != i16::from(outer));
             }
             cases += patterns.len() as u64;
         }
@@ -129,22 +129,18 @@ fn onto_halves(tally: &mut Tally, random: &mut Random) {
     tally.expect(elsewhere > 0, format_args!("{name}: no value differs"));
 }
 
-/// Scales and amplitudes whose products are as far from their values as can be, with these values: the products are a
-/// half and 2^-18 away from an even number, and rounded in f32 they are a half away. Times 2^18 they are odd numbers,
-/// found here as products of two.
+/// Scales and amplitudes whose products are as far from their values as can be, with these values: the products are
+/// 2^-18 below a half, and rounded in f32 they are that half, which goes outward. Times 2^18 they are odd numbers, found
+/// here as products of two.
 fn farthest_pairs() -> Vec<(u32, u32, i8)> {
     let mut found = Vec::new();
     for whole in 64..=126u32 {
-        let half = (2 * whole + 1) << 17;
-        let (odd, even) = match whole % 2 {
-            0 => (half + 1, whole as i8),
-            _ => (half - 1, whole as i8 + 1),
-        };
+        let odd = ((2 * whole + 1) << 17) - 1;
         let divisors = (3..).step_by(2).take_while(|d| d * d <= odd);
         for d in divisors.filter(|d| odd % d == 0) {
             // Whole numbers below 2^24 are in f32 as they are; 18 less in the exponent is 2^-18 times.
             let (scale, times) = ((d as f32).to_bits(), ((odd / d) as f32).to_bits());
-            found.push((scale, times - (18 << 23), even));
+            found.push((scale, times - (18 << 23), whole as i8 + 1));
         }
     }
     found
@@ -153,14 +149,14 @@ fn farthest_pairs() -> Vec<(u32, u32, i8)> {
 /// Their values are beyond 1/2 by half of what the bound allows.
 fn farthest(tally: &mut Tally, mistaken: &mut Mistaken) {
     let pairs = farthest_pairs();
-    for &(scale, x, even) in &pairs {
+    for &(scale, x, outer) in &pairs {
         let request = Request::heard(scale, &both_signs(x));
         let (_, buffer) = request.compare(tally, "the farthest products");
-        let (far, c) = distance(even, scale, x);
+        let (far, c) = distance(outer, scale, x);
         tally.expect(
-            buffer[..2] == [even, -even] && far * 262_144 == 131_073 * c,
+            buffer[..2] == [outer, -outer] && far * 262_144 == 131_073 * c,
             format_args!(
-                "{scale:08x} times {x:08x}: wanted {even}, got {}",
+                "{scale:08x} times {x:08x}: wanted {outer}, got {}",
                 buffer[0]
             ),
         );
@@ -285,21 +281,25 @@ fn underflows(tally: &mut Tally, random: &mut Random) {
 
 /// Mistake: the next whole number towards zero.
 const DROPPED: Way = Way {
-    whole: |_, _| false,
+    whole: [|_, _| false; 2],
     ..TRUE
 };
 
+/// To the nearest, a half to the neighbour nearer to zero.
+const HALF_INWARD: Rule = |_, rest| rest.is_gt();
+
 /// Mistaken ways to find a value.
 #[rustfmt::skip]
-const MISTAKES: [(&str, Way); 10] = [
+const MISTAKES: [(&str, Way); 11] = [
     ("32 whatever the scale", Way { factors: |_, x| (THIRTY_TWO, x), ..TRUE }),
     ("subnormal numbers as 0", Way { factors: without_subnormals, ..TRUE }),
     ("no rounding in f32", EXACT),
     ("the product cut off in f32", Way { product: Some(|_, _| false), ..TRUE }),
-    ("ties of the product away from zero", Way { product: Some(|_, rest| rest.is_ge()), ..TRUE }),
+    ("ties of the product towards zero", Way { product: Some(HALF_INWARD), ..TRUE }),
     ("an overflowed product as 0", Way { overflowed: 0, ..TRUE }),
-    ("a half away from zero", Way { whole: |_, rest| rest.is_ge(), ..TRUE }),
-    ("a half towards zero", Way { whole: |_, rest| rest.is_gt(), ..TRUE }),
+    ("a half to the even neighbour", Way { whole: [half_to_even; 2], ..TRUE }),
+    ("a half towards zero", Way { whole: [HALF_INWARD; 2], ..TRUE }),
+    ("a half upwards", Way { whole: [half_outward, HALF_INWARD], ..TRUE }),
     ("a rest dropped", DROPPED),
     ("the range from -128", Way { lowest: -128, ..TRUE }),
 ];

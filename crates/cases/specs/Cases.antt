@@ -82,7 +82,7 @@ starred =
     ∷ sizeRefused 0 8
     ∷ sizeRefused 33 8
     ∷ at32 (fin false 1 (pos 0)) (pos 32)
-    ∷ at32 (fin false 1 (negsuc 5)) (pos 0)
+    ∷ at32 (fin false 1 (negsuc 5)) (pos 1)
     ∷ at32 (fin false 3 (negsuc 5)) (pos 2)
     ∷ at32 (fin false 127 (negsuc 4)) (pos 127)
     ∷ at32 (fin false 1 (pos 2)) (pos 127)

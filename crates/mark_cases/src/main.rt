@@ -122,7 +122,7 @@ fn bench_cases() {
     one(b"amplitude -0.0", -0.0);
 }
 
-// More halves, below zero and at the ends of the range.
+// More halves, below zero and at the ends of the range: each goes to the neighbour farther from zero.
 fn halves() {
     one(b"amplitude -0.015625", -0.015625);
     one(b"amplitude -0.046875", -0.046875);
@@ -142,8 +142,12 @@ fn far_ends() {
 // Halves under several scales.
 fn scaled_halves() {
     with_scale(b"scale 1, amplitude 0.5", 1.0, 0.5);
+    with_scale(b"scale 1, amplitude -0.5", 1.0, -0.5);
+    with_scale(b"scale 1, amplitude 1.5", 1.0, 1.5);
     with_scale(b"scale 1, amplitude -1.5", 1.0, -1.5);
     with_scale(b"scale 1, amplitude 126.5", 1.0, 126.5);
+    with_scale(b"scale 1, amplitude -126.5", 1.0, -126.5);
+    with_scale(b"scale 1, amplitude 127.5", 1.0, 127.5);
     with_scale(b"scale 1, amplitude -127.5", 1.0, -127.5);
     with_scale(b"scale 32, amplitude 0.078125", 32.0, 0.078125);
     with_scale(b"scale 127, amplitude 0.5", 127.0, 0.5);
@@ -160,8 +164,20 @@ fn scaled_halves() {
     );
 }
 
-// The exact product lies next to a half. In all but the fourth the product rounded in f32 is the half itself, and its
-// even neighbour is not always the nearest to the exact one.
+// One pattern below a half: the inner neighbour is the nearest.
+fn below_halves() {
+    one(b"amplitude 0.015624999", 0.015624999);
+    one(b"amplitude -0.015624999", -0.015624999);
+    one(b"amplitude 0.046874996", 0.046874996);
+    one(b"amplitude -3.9531248", -3.9531248);
+    with_scale(b"scale 1, amplitude 0.49999997", 1.0, 0.49999997);
+    with_scale(b"scale 1, amplitude -1.4999999", 1.0, -1.4999999);
+    with_scale(b"scale 1, amplitude 126.49999", 1.0, 126.49999);
+    with_scale(b"scale 1, amplitude -126.49999", 1.0, -126.49999);
+}
+
+// The exact product lies next to a half. In all but the fourth the product rounded in f32 is the half itself. In the last
+// two the exact one lies below it, and the inner neighbour is the nearest to that.
 fn rounded_halves() {
     with_scale(b"scale 0.33333334, amplitude 1.5", 0.33333334, 1.5);
     with_scale(b"scale 0.33333334, amplitude 4.5", 0.33333334, 4.5);
@@ -175,6 +191,16 @@ fn rounded_halves() {
     with_scale(
         b"scale 31.999998, amplitude -0.015625002",
         31.999998,
+        -0.015625002,
+    );
+    with_scale(
+        b"scale 31.999996, amplitude 0.015625002",
+        31.999996,
+        0.015625002,
+    );
+    with_scale(
+        b"scale 31.999996, amplitude -0.015625002",
+        31.999996,
         -0.015625002,
     );
 }
@@ -330,6 +356,7 @@ fn main() {
     halves();
     far_ends();
     scaled_halves();
+    below_halves();
     rounded_halves();
     far_products();
     scales_refused();

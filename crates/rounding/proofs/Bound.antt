@@ -18,7 +18,7 @@ use lib.Ieee.Positive.{num, den, positive, positive-finite, den-pos}
 use lib.Ieee.Scale.{grid, finite}
 use Rattle.rounding.specs.Rounding.{rounded, limited, isNegative, nearestLimited, signed}
 use Rattle.rounding.specs.Bound.{productDen, Near, NearProduct}
-use Rattle.rounding.proofs.Rounded.{Half, rounded-half, rounded-closest, at-limit}
+use Rattle.rounding.proofs.Rounded.{Half, rounded-half, closest-half, at-limit}
 use Rattle.rounding.proofs.Nearest.{between, own}
 use Rattle.rounding.proofs.Products.{round-limited, grid-large, product-negative}
 
@@ -36,7 +36,7 @@ grid-near a c C h =
     let k-le : k ≤ 132 = omega arith in
     let w : u ≤ c * 2 ^ 132 = mul-le-mul-left c (pow-mono {i = k} {j = 132} k-le) in
     let e : closest n u * u ≡ grid binary32 a c * c = ap (λ x. closest n u * x) (mul-comm c (2 ^ k)) ∙ sym (mul-assoc (closest n u) (2 ^ k) c) in
-    let t : Half (closest n u) n u = subst (λ v. Half v n u) (rounded-closest n u) (rounded-half n u (mul-pos C (pow-pos k))) in
+    let t : Half (closest n u) n u = closest-half n u (mul-pos C (pow-pos k)) in
     go (closest n u * u) (grid binary32 a c * c) n u (c * 2 ^ 132) e w (t .0) (t .1)
   where
     go : (x g n u b : ℕ) → x ≡ g → u ≤ b → x * 2 ≤ n * 2 + u → n * 2 ≤ x * 2 + u → (g * 2 ≤ n * 2 + b) × (n * 2 ≤ g * 2 + b)

@@ -1,4 +1,4 @@
--- The steps of a product are nearest to it among all whole numbers, and even where another is as near. Assumes nothing.
+-- The steps of a product are nearest to it among all whole numbers, and at a half the neighbour farther from zero. Assumes nothing.
 use mathlib.Core.Path.{_≡_, refl, sym, ap, _∙_}
 use mathlib.Core.Logic.{_⊎_, inl, inr}
 use mathlib.Core.Bool.{Bool, true, false, cond}
@@ -14,7 +14,7 @@ use lib.Ieee.Fits.{down-pos}
 use lib.Ieee.Positive.{num, den}
 use lib.Ieee.Scale.{finite}
 use Rattle.rounding.specs.Rounding.{rounded, steps, isNegative, signed}
-use Rattle.rounding.proofs.Rounded.{Half, rounded-half, rounded-even}
+use Rattle.rounding.proofs.Rounded.{Half, rounded-half, rounded-outward}
 
 -- How far the whole number n lies from p, in parts of 1 / den p.
 abbrev pub apart : Float → ℤ → ℕ
@@ -94,22 +94,8 @@ module _ (a b w : ℕ) (B : 0 < b) (h : Half w a b) where
       go (no l) (yes k) = let g = gap w m b k in omega arith
       go (no l) (no k) = let e : m ≡ w = omega arith in rw e (omega arith)
 
-  tied : (m : ℕ) → between (m * b) a ≡ between (w * b) a → (m ≡ w → ⊥) → (w * b * 2 ≡ a * 2 + b) ⊎ (a * 2 ≡ w * b * 2 + b)
-  tied m t d = go (decLt m w)
-    where
-      go : Dec (m < w) → (w * b * 2 ≡ a * 2 + b) ⊎ (a * 2 ≡ w * b * 2 + b)
-      go (yes l) = let g = gap m w b l in inl (omega arith)
-      go (no l) =
-          let k : w < m = go′ (decLt w m) in
-          let g = gap w m b k in
-          inr (omega arith)
-        where
-          go′ : Dec (w < m) → w < m
-          go′ (yes k) = k
-          go′ (no k) = absurd (d (omega arith))
-
 module _ (s : Bool) (a b : ℕ) (B : 0 < b) where
-  -- The rounded fraction is at least as near as n,
+  -- The rounded fraction is at least as near as n.
   far-least : (n : ℤ) → far s a b (signed s (rounded a b)) ≤ far s a b n
   far-least n = rw (own s a b (rounded a b) B) (go (sides s a b B n))
     where
@@ -120,20 +106,6 @@ module _ (s : Bool) (a b : ℕ) (B : 0 < b) where
           let g : suc m * b ≡ m * b + b = suc-mul m b in
           rw f (omega arith)
 
-  -- and even where another n is as near.
-  far-even : (n : ℤ) → far s a b n ≡ far s a b (signed s (rounded a b)) → (n ≡ signed s (rounded a b) → ⊥) → rounded a b % 2 ≡ 0
-  far-even n t d = go (sides s a b B n)
-    where
-      go : Sides s a b n → rounded a b % 2 ≡ 0
-      go (inl (m, (e, f))) =
-          rounded-even a b B
-          (tied a b (rounded a b) B (rounded-half a b B) m (sym f ∙ t ∙ own s a b (rounded a b) B) (λ q. d (e ∙ ap (signed s) q)))
-      go (inr (m, f)) =
-          let h = rounded-half a b B in
-          let g : suc m * b ≡ m * b + b = suc-mul m b in
-          let u : between (rounded a b * b) a ≡ suc m * b + a = sym (own s a b (rounded a b) B) ∙ sym t ∙ f in
-          absurd (omega arith)
-
 -- ---- any finite number
 
 near-all : (p : Float) → T (finite p) → (n : ℤ) → apart p (signed (isNegative p) (steps p)) ≤ apart p n
@@ -141,11 +113,10 @@ near-all nan h n = absurd h
 near-all (inf s) h n = absurd h
 near-all (fin s m e) h n = far-least s (m * up e) (down e) (down-pos e) n
 
-even-all : (p : Float) → T (finite p) → (n : ℤ) → apart p n ≡ apart p (signed (isNegative p) (steps p))
-    → (n ≡ signed (isNegative p) (steps p) → ⊥) → steps p % 2 ≡ 0
-even-all nan h n t d = absurd h
-even-all (inf s) h n t d = absurd h
-even-all (fin s m e) h n t d = far-even s (m * up e) (down e) (down-pos e) n t d
+outward-all : (p : Float) → T (finite p) → (q : ℕ) → num p * 2 ≡ (q * 2 + 1) * den p → steps p ≡ q + 1
+outward-all nan h q e = absurd h
+outward-all (inf s) h q e = absurd h
+outward-all (fin s m e) h q k = rounded-outward (m * up e) (down e) q (down-pos e) k
 
 -- ---- the theorem, of the product of an amplitude and a scale, rounded once in binary32
 
@@ -154,7 +125,7 @@ pub steps-nearest : (scale x : Float) → (let p = mul binary32 x scale in
     T (finite p) → (n : ℤ) → apart p (signed (isNegative p) (steps p)) ≤ apart p n)
 steps-nearest scale x = near-all (mul binary32 x scale)
 
--- Where another whole number is as near, the steps are even.
-pub steps-even : (scale x : Float) → (let p = mul binary32 x scale in
-    T (finite p) → (n : ℤ) → apart p n ≡ apart p (signed (isNegative p) (steps p)) → (n ≡ signed (isNegative p) (steps p) → ⊥) → steps p % 2 ≡ 0)
-steps-even scale x = even-all (mul binary32 x scale)
+-- At a half, where its size is q and 1/2, they are q + 1: of the two neighbours the one farther from zero.
+pub steps-outward : (scale x : Float) → (let p = mul binary32 x scale in
+    T (finite p) → (q : ℕ) → num p * 2 ≡ (q * 2 + 1) * den p → steps p ≡ q + 1)
+steps-outward scale x = outward-all (mul binary32 x scale)

@@ -1,16 +1,16 @@
--- Laws of the rounding: how it is picked, how near it is, that equal fractions agree, the limit and zero. Assumes nothing.
+-- Laws of the rounding: how it is picked, how near it is, where a half goes, that equal fractions agree, the limit and zero.
+-- Assumes nothing.
 use mathlib.Core.Path.{_≡_, refl, sym, ap, _∙_, subst}
-use mathlib.Core.Logic.{_⊎_, inl, inr}
 use mathlib.Core.Bool.{Bool, not}
-use Prim.Native.Nat.{ℕ, zero, suc, _+_, _*_, _/_, _%_, min, _≤_, _<_, compare, Ordering, Ordering·lt, Ordering·eq, Ordering·gt}
-use native.Mathlib.Nat.{le-trans, mul-le-mul-right, add-mul, suc-mul, div-add-mod', div-eq-of-lt, mod-eq-of-lt, mod-lt, le-div-iff-mul-le}
+use Prim.Native.Nat.{ℕ, zero, suc, _+_, _-_, _*_, _/_, _%_, min, _≤_, _<_, compare, Ordering, Ordering·lt, Ordering·eq, Ordering·gt}
+use native.Mathlib.Nat.{le-refl, le-suc, le-of-eq, le-of-lt, mul-comm, mul-assoc, mul-left-comm, mul-mul-mul-comm, mul-le-mul-right, mul-div-cancel, add-mul, suc-mul, div-add-mod', div-eq-of-lt, mod-lt, le-div-iff-mul-le}
 use native.Mathlib.Omega.{arith}
-use lib.Arith.{lt-of-le-ne}
-use lib.Dec.{T, isLe, isEq, eqb, leb→le, nleb→lt, eqb→eq, eqb-refl}
+use lib.Arith.{lt-of-le-ne, digits-div}
+use lib.Dec.{T, lit<, isLe, isEq, eqb, leb→le, nleb→lt, eqb→eq, eqb-refl}
 use lib.Ieee.{Float, nan, inf, fin, up, down, odd, nearest}
 use lib.Ieee.Exact.{HasValue}
 use lib.Ieee.Fits.{down-pos}
-use lib.Ieee.Nearest.{closest, closest-same, nearest-ge}
+use lib.Ieee.Nearest.{closest, div-same}
 use Rattle.rounding.specs.Rounding.{rounded, steps, limited, isNegative}
 
 -- ---- how it is picked
@@ -29,30 +29,33 @@ cmp a b = go (compare a b) (leb→le a b) (nleb→lt a b) (eqb→eq a b) (λ e. 
     go Ordering·eq h k e n = e tt
     go Ordering·gt h k e n = k tt
 
--- It is the rounding that the operations of binary32 use.
-pub rounded-closest : (a b : ℕ) → rounded a b ≡ closest a b
-unfolding rounded
-rounded-closest a b = go (compare (a % b * 2) b)
+-- The whole number nearest to a / b, where a half goes to h.
+abbrev pick : ℕ → ℕ → ℕ → ℕ
+pick a b h = elim (compare (a % b * 2) b) [ Ordering·lt ↦ a / b | Ordering·eq ↦ h | Ordering·gt ↦ suc (a / b) ]
+
+-- What is shown of each of the three cases holds of it.
+pick-by : (P : ℕ → Type 0) (a b h : ℕ)
+    → (a % b * 2 < b → P (a / b)) → (a % b * 2 ≡ b → P h) → (b < a % b * 2 → P (suc (a / b))) → P (pick a b h)
+pick-by P a b h under half over = go (compare (a % b * 2) b) (cmp (a % b * 2) b)
   where
-    go : (o : Ordering) → elim o [ Ordering·lt ↦ a / b | Ordering·eq ↦ a / b + a / b % 2 | Ordering·gt ↦ suc (a / b) ] ≡ nearest (a / b) o
+    go : (o : Ordering) → Cmp o (a % b * 2) b → P (elim o [ Ordering·lt ↦ a / b | Ordering·eq ↦ h | Ordering·gt ↦ suc (a / b) ])
+    go Ordering·lt k = under k
+    go Ordering·eq k = half k
+    go Ordering·gt k = over k
+
+-- The rounding sends a half outward,
+pub rounded-pick : (a b : ℕ) → rounded a b ≡ pick a b (suc (a / b))
+unfolding rounded
+rounded-pick a b = refl
+
+-- and the one that the operations of binary32 use to the even neighbour.
+closest-pick : (a b : ℕ) → closest a b ≡ pick a b (a / b + a / b % 2)
+closest-pick a b = go (compare (a % b * 2) b)
+  where
+    go : (o : Ordering) → nearest (a / b) o ≡ elim o [ Ordering·lt ↦ a / b | Ordering·eq ↦ a / b + a / b % 2 | Ordering·gt ↦ suc (a / b) ]
     go Ordering·lt = refl
     go Ordering·eq = refl
     go Ordering·gt = refl
-
--- What is shown of each of the three cases holds of the rounding.
-pub rounded-by : (P : ℕ → Type 0) (a b : ℕ)
-    → (a % b * 2 < b → P (a / b)) → (a % b * 2 ≡ b → P (a / b + a / b % 2)) → (b < a % b * 2 → P (suc (a / b))) → P (rounded a b)
-rounded-by P a b under half over = subst P (sym (rounded-closest a b)) (go (compare (a % b * 2) b) (cmp (a % b * 2) b))
-  where
-    go : (o : Ordering) → Cmp o (a % b * 2) b → P (nearest (a / b) o)
-    go Ordering·lt h = under h
-    go Ordering·eq h = half h
-    go Ordering·gt h = over h
-
--- Over 2 ^ 24: a half less one is added, and one more where the whole part is odd.
-pub rounded-sum : (w : ℕ) → rounded w 16777216 ≡ (w + 8388607 + w / 16777216 % 2) / 16777216
-rounded-sum w =
-    rounded-by (λ v. v ≡ (w + 8388607 + w / 16777216 % 2) / 16777216) w 16777216 (λ h. omega arith) (λ h. omega arith) (λ h. omega arith)
 
 -- ---- within a half
 
@@ -60,61 +63,96 @@ rounded-sum w =
 abbrev pub Half : ℕ → ℕ → ℕ → Type 0
 Half v a b = (v * b * 2 ≤ a * 2 + b) × (a * 2 ≤ v * b * 2 + b)
 
-pub rounded-half : (a b : ℕ) → 0 < b → Half (rounded a b) a b
-rounded-half a b B =
+-- Whichever neighbour a half goes to.
+pick-half : (a b h : ℕ) → 0 < b → a / b ≤ h → h ≤ suc (a / b) → Half (pick a b h) a b
+pick-half a b h B low high =
     let w = div-add-mod' a b in
     let l = mod-lt a B in
-    rounded-by (λ v. Half v a b) a b
-    (λ h. under (a / b) (a % b) w l h)
-    (λ h. half (a / b) (a % b) w l h)
-    (λ h. over (a / b) (a % b) w l h)
+    pick-by (λ v. Half v a b) a b h
+    (λ k. under (a / b) (a % b) w l k)
+    (λ k. half (a / b) (a % b) w k low high)
+    (λ k. over (a / b) (a % b) w l k)
   where
-    bit : (q : ℕ) → q % 2 ≤ 1
-    bit q = omega arith
-
     under : (q r : ℕ) → q * b + r ≡ a → r < b → r * 2 < b → Half q a b
-    under q r w l h = (omega arith, omega arith)
+    under q r w l k = (omega arith, omega arith)
 
-    half : (q r : ℕ) → q * b + r ≡ a → r < b → r * 2 ≡ b → Half (q + q % 2) a b
-    half q r w l h =
-        let e : (q + q % 2) * b ≡ q * b + q % 2 * b = add-mul q (q % 2) b in
-        let k : q % 2 * b ≤ 1 * b = mul-le-mul-right b (bit q) in
+    half : (q r : ℕ) → q * b + r ≡ a → r * 2 ≡ b → q ≤ h → h ≤ suc q → Half h a b
+    half q r w k low high =
+        let e : suc q * b ≡ q * b + b = suc-mul q b in
+        let m : q * b ≤ h * b = mul-le-mul-right b low in
+        let n : h * b ≤ suc q * b = mul-le-mul-right b high in
         (omega arith, omega arith)
 
     over : (q r : ℕ) → q * b + r ≡ a → r < b → b < r * 2 → Half (suc q) a b
-    over q r w l h = let e : suc q * b ≡ q * b + b = suc-mul q b in (omega arith, omega arith)
+    over q r w l k = let e : suc q * b ≡ q * b + b = suc-mul q b in (omega arith, omega arith)
 
--- Where it lies a half away it is even.
-pub rounded-even : (a b : ℕ) → 0 < b → (rounded a b * b * 2 ≡ a * 2 + b) ⊎ (a * 2 ≡ rounded a b * b * 2 + b) → rounded a b % 2 ≡ 0
-rounded-even a b B =
+pub rounded-half : (a b : ℕ) → 0 < b → Half (rounded a b) a b
+rounded-half a b B = rw (rounded-pick a b) (pick-half a b (suc (a / b)) B (le-suc (a / b)) (le-refl (suc (a / b))))
+
+pub closest-half : (a b : ℕ) → 0 < b → Half (closest a b) a b
+closest-half a b B = rw (closest-pick a b) (pick-half a b (a / b + a / b % 2) B (low (a / b)) (high (a / b)))
+  where
+    low : (q : ℕ) → q ≤ q + q % 2
+    low q = omega arith
+
+    high : (q : ℕ) → q + q % 2 ≤ suc q
+    high q = omega arith
+
+-- ---- a half added and the whole part taken
+
+pub rounded-added : (a b : ℕ) → 0 < b → rounded a b ≡ (a * 2 + b) / (b * 2)
+rounded-added a b B =
     let w = div-add-mod' a b in
     let l = mod-lt a B in
-    rounded-by (λ v. (v * b * 2 ≡ a * 2 + b) ⊎ (a * 2 ≡ v * b * 2 + b) → v % 2 ≡ 0) a b
-    (λ h. under (a / b) (a % b) w l h)
-    (λ h k. even (a / b))
-    (λ h. over (a / b) (a % b) w l h)
+    rounded-pick a b
+    ∙ pick-by (λ v. v ≡ (a * 2 + b) / (b * 2)) a b (suc (a / b))
+    (λ k. under (a / b) (a % b) w l k)
+    (λ k. over (a / b) (a % b) w l (le-of-eq (sym k)))
+    (λ k. over (a / b) (a % b) w l (le-of-lt k))
   where
-    even : (q : ℕ) → (q + q % 2) % 2 ≡ 0
-    even q = omega arith
+    whole : (v r : ℕ) → v * (b * 2) + r ≡ a * 2 + b → r < b * 2 → v ≡ (a * 2 + b) / (b * 2)
+    whole v r e l = sym (digits-div v l) ∙ ap (λ x. x / (b * 2)) e
 
-    under : (q r : ℕ) → q * b + r ≡ a → r < b → r * 2 < b → (q * b * 2 ≡ a * 2 + b) ⊎ (a * 2 ≡ q * b * 2 + b) → q % 2 ≡ 0
-    under q r w l h (inl k) = absurd (omega arith)
-    under q r w l h (inr k) = absurd (omega arith)
+    under : (q r : ℕ) → q * b + r ≡ a → r < b → r * 2 < b → q ≡ (a * 2 + b) / (b * 2)
+    under q r w l k = let e : q * (b * 2) ≡ q * b * 2 = sym (mul-assoc q b 2) in whole q (r * 2 + b) (omega arith) (omega arith)
 
-    over : (q r : ℕ) → q * b + r ≡ a → r < b → b < r * 2 → (suc q * b * 2 ≡ a * 2 + b) ⊎ (a * 2 ≡ suc q * b * 2 + b) → suc q % 2 ≡ 0
-    over q r w l h (inl k) = let e : suc q * b ≡ q * b + b = suc-mul q b in absurd (omega arith)
-    over q r w l h (inr k) = let e : suc q * b ≡ q * b + b = suc-mul q b in absurd (omega arith)
+    over : (q r : ℕ) → q * b + r ≡ a → r < b → b ≤ r * 2 → suc q ≡ (a * 2 + b) / (b * 2)
+    over q r w l k =
+        let e : suc q * (b * 2) ≡ suc q * b * 2 = sym (mul-assoc (suc q) b 2) in
+        let f : suc q * b ≡ q * b + b = suc-mul q b in
+        whole (suc q) (r * 2 - b) (omega arith) (omega arith)
+
+-- Over 2 ^ 24.
+pub rounded-sum : (w : ℕ) → rounded w 16777216 ≡ (w + 8388608) / 16777216
+rounded-sum w = let e = rounded-added w 16777216 (lit< tt) in omega arith
+
+-- At q and a half it is q + 1.
+pub rounded-outward : (a b q : ℕ) → 0 < b → a * 2 ≡ (q * 2 + 1) * b → rounded a b ≡ q + 1
+rounded-outward a b q B h =
+    let e : (q * 2 + 1) * b ≡ q * 2 * b + 1 * b = add-mul (q * 2) 1 b in
+    let f : (q + 1) * (b * 2) ≡ q * (b * 2) + 1 * (b * 2) = add-mul q 1 (b * 2) in
+    let g : q * (b * 2) ≡ q * 2 * b = ap (λ x. q * x) (mul-comm b 2) ∙ sym (mul-assoc q 2 b) in
+    let s : a * 2 + b ≡ (q + 1) * (b * 2) = omega arith in
+    rounded-added a b B ∙ ap (λ x. x / (b * 2)) s ∙ mul-div-cancel (q + 1) (omega arith)
 
 -- ---- equal fractions agree, the limit, zero
 
 pub rounded-same : (a b c d : ℕ) → 0 < b → 0 < d → a * d ≡ c * b → rounded a b ≡ rounded c d
-rounded-same a b c d B D h = rounded-closest a b ∙ closest-same a b c d B D h ∙ sym (rounded-closest c d)
+rounded-same a b c d B D h =
+    let x : (a * 2 + b) * (d * 2) ≡ a * 2 * (d * 2) + b * (d * 2) = add-mul (a * 2) b (d * 2) in
+    let y : (c * 2 + d) * (b * 2) ≡ c * 2 * (b * 2) + d * (b * 2) = add-mul (c * 2) d (b * 2) in
+    let f : a * 2 * (d * 2) ≡ c * 2 * (b * 2) = mul-mul-mul-comm a 2 d 2 ∙ ap (λ z. z * 4) h ∙ sym (mul-mul-mul-comm c 2 b 2) in
+    let g : b * (d * 2) ≡ d * (b * 2) = mul-left-comm b d 2 in
+    let e : (a * 2 + b) * (d * 2) ≡ (c * 2 + d) * (b * 2) = omega arith in
+    rounded-added a b B ∙ div-same (a * 2 + b) (b * 2) (c * 2 + d) (d * 2) (omega arith) (omega arith) e ∙ sym (rounded-added c d D)
 
 -- A fraction that is at least a whole number stays at least that.
 pub rounded-ge : (n a b : ℕ) → 0 < b → n * b ≤ a → n ≤ rounded a b
 rounded-ge n a b B h =
-    let q : n ≤ a / b = le-div-iff-mul-le B .1 h in
-    rw (rounded-closest a b) (le-trans q (nearest-ge (a / b) (compare (a % b * 2) b)))
+    let e : n * (b * 2) ≡ n * b * 2 = sym (mul-assoc n b 2) in
+    let l : n * (b * 2) ≤ a * 2 + b = omega arith in
+    let p : 0 < b * 2 = omega arith in
+    rw (rounded-added a b B) (le-div-iff-mul-le p .1 l)
 
 pub at-limit : (a b : ℕ) → 0 < b → 127 * b ≤ a → min 127 (rounded a b) ≡ 127
 at-limit a b B h = go (rounded a b) (rounded-ge 127 a b B h)
@@ -124,10 +162,9 @@ at-limit a b B h = go (rounded a b) (rounded-ge 127 a b B h)
 
 pub to-zero : (a b : ℕ) → a * 2 < b → rounded a b ≡ 0
 to-zero a b h =
-    let l : a < b = omega arith in
-    let q : a / b ≡ 0 = div-eq-of-lt l in
-    let r : a % b ≡ a = mod-eq-of-lt l in
-    rounded-by (λ v. v ≡ 0) a b (λ k. q) (λ k. absurd (omega arith)) (λ k. absurd (omega arith))
+    let B : 0 < b = omega arith in
+    let l : a * 2 + b < b * 2 = omega arith in
+    rounded-added a b B ∙ div-eq-of-lt l
 
 -- ---- of a number
 

@@ -5,11 +5,11 @@ use Prim.Native.Nat.{ℕ, suc, _+_, _*_, _/_, _%_, min, compare, Ordering·lt, O
 use lib.IntN.{ℤ, pos, negℤ}
 use lib.Ieee.{Float, nan, inf, fin, up, down}
 
--- The rounding: the whole number nearest to a / b, for a b above 0. A half goes to the even neighbour.
+-- The rounding: the whole number nearest to a / b, for a b above 0. A half goes to the neighbour farther from zero.
 unfoldable pub rounded : ℕ → ℕ → ℕ
 rounded a b =
     let q = a / b in
-    elim (compare (a % b * 2) b) [ Ordering·lt ↦ q | Ordering·eq ↦ q + q % 2 | Ordering·gt ↦ suc q ]
+    elim (compare (a % b * 2) b) [ Ordering·lt ↦ q | Ordering·eq ↦ suc q | Ordering·gt ↦ suc q ]
 
 -- The size of a number, to the nearest whole number. An infinity, which is what a product that overflows gives, stands at the
 -- limit. A NaN has no size, and no job asks for it.

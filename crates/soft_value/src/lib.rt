@@ -9,12 +9,12 @@ ghost use lib.Ieee.Scale.{finite};
 ghost use Rattle.rounding.specs.Rounding.{rounded, limited, nearestLimited};
 ghost use Rattle.soft_value.specs.Value.{softValue};
 
-// w / 2^24 to the nearest whole number, limited to 127: less than a half is added, and a half where the whole part is odd.
+// w / 2^24 to the nearest whole number, limited to 127: a half is added, and the whole part taken.
 fn nearest(w: u32) -> u8
     requires { ⌜ w < 2147483648 ⌝ }
     ensures { λ r. ⌜ r ≡ min 127 (rounded w 16777216) ⌝ }
 {
-    let n = (w + 8388607 + w / 16777216 % 2) / 16777216;
+    let n = (w + 8388608) / 16777216;
     if n < 127 { n as u8 } else { 127 }
 }
 

@@ -8,9 +8,6 @@ use Rattle.soft_value.proofs.nearest.Tie as tie
 add-n : tie.Need-add-n
 add-n c = search needs
 
-add-n-2 : tie.Need-add-n-2
-add-n-2 c = search needs
-
 cast-result : tie.Need-cast-result
 cast-result c = search needs
 
@@ -21,4 +18,4 @@ returns-2 : tie.Need-returns-2
 returns-2 c = let e = rounded-sum (c .before .args .w) in omega arith
 
 pub nearest-spec : {M : Type 1} → statement M
-nearest-spec = tie.close (tie.spec add-n add-n-2 cast-result returns returns-2)
+nearest-spec = tie.close (tie.spec add-n cast-result returns returns-2)
