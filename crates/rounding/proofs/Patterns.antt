@@ -2,7 +2,8 @@
 -- A pattern is a sign, an exponent field of eight bits and 23 digits: 2147483648 is 2 ^ 31 and 8388608 is 2 ^ 23.
 use mathlib.Core.Path.{_≡_, refl, sym, ap, _∙_, subst}
 use Prim.Native.Nat.{ℕ, zero, suc, _+_, _-_, _*_, _/_, _%_, _^_, min, _≤_, _<_}
-use native.Mathlib.Nat.{le-trans, le-of-eq, lt-of-lt-of-le, not-le-of-lt, mod-eq-of-lt, mul-assoc, mul-le-mul, mul-lt-mul-of-pos-right, eq-or-lt-of-le}
+use native.Mathlib.Nat.{le-trans, le-of-eq, le-of-lt, lt-of-lt-of-le, not-le-of-lt, mod-eq-of-lt, mul-assoc, mul-le-mul, mul-le-mul-right, mul-lt-mul-of-pos-right, eq-or-lt-of-le}
+use native.Mathlib.Decide.{decLt}
 use native.Mathlib.Omega.{arith}
 use mathlib.Core.Bool.{Bool, true, false, cond, not}
 use mathlib.Core.Logic.{inl, inr}
@@ -49,7 +50,7 @@ value s (suc x) t h = subst (λ v. HasValue v s ((8388608 + t) * 2 ^ x) (2 ^ 149
 limited-val : (x t : ℕ) → x < 255 → limited (ofFields binary32 false x t) ≡ min 127 (rounded (val x t) (2 ^ 149))
 limited-val x t h = limited-of (ofFields binary32 false x t) false (val x t) (2 ^ 149) (pow-pos 149) (value false x t h)
 
--- ---- below a half, from 128 on, and between
+-- ---- below a half, from 127 on, and from a quarter to 127
 
 no-zero : (k : ℕ) → suc k ≤ 0 → ⊥
 no-zero k h = omega arith
@@ -64,23 +65,31 @@ val-low (suc x) t h l =
     let i : 24 + x ≤ 148 = omega arith in
     mul-lt-mul-of-pos-right (lt-of-lt-of-le (shl-lt 24 x d) (pow-mono {i = 24 + x} {j = 148} i)) (pow-pos 1)
 
-val-high : (x t : ℕ) → 134 ≤ x → 127 * 2 ^ 149 ≤ val x t
-val-high zero t h = absurd (no-zero 133 h)
-val-high (suc x) t h =
-    let i : 133 ≤ x = omega arith in
-    let d : 8388608 ≤ 8388608 + t = omega arith in
-    le-trans (lit≤ tt) (mul-le-mul d (pow-mono {i = 133} {j = x} i))
+-- 0x42fe0000 is the pattern of 127.
+val-high : (x t : ℕ) → 0x42fe0000 ≤ x * 8388608 + t → t < 8388608 → 127 * 2 ^ 149 ≤ val x t
+val-high zero t h l = absurd (omega arith)
+val-high (suc x) t h l = go (decLt x 133)
+  where
+    go : Dec (x < 133) → 127 * 2 ^ 149 ≤ (8388608 + t) * 2 ^ x
+    go (yes k) =
+        let i : 132 ≤ x = omega arith in
+        let d : 16646144 ≤ 8388608 + t = omega arith in
+        le-trans (lit≤ tt) (mul-le-mul d (pow-mono {i = 132} {j = x} i))
+    go (no k) =
+        let i : 133 ≤ x = omega arith in
+        let d : 8388608 ≤ 8388608 + t = omega arith in
+        le-trans (lit≤ tt) (mul-le-mul d (pow-mono {i = 133} {j = x} i))
 
-val-mid : (x t : ℕ) → 126 ≤ x → x < 134 → val x t * 2 ^ 24 ≡ (t + 8388608) * 2 ^ (x - 126) * 2 ^ 149
-val-mid zero t h k = absurd (no-zero 125 h)
-val-mid (suc x) t h k =
-    let e : x ≡ (suc x - 126) + 125 = omega arith in
-    let p : 2 ^ x ≡ 2 ^ (suc x - 126) * 2 ^ 125 = ap (λ z. 2 ^ z) e ∙ pow-add 2 (suc x - 126) 125 in
+val-mid : (x t : ℕ) → 125 ≤ x → val x t * 2 ^ 25 ≡ (t + 8388608) * 2 ^ (x - 125) * 2 ^ 149
+val-mid zero t h = absurd (no-zero 124 h)
+val-mid (suc x) t h =
+    let e : x ≡ (suc x - 125) + 124 = omega arith in
+    let p : 2 ^ x ≡ 2 ^ (suc x - 125) * 2 ^ 124 = ap (λ z. 2 ^ z) e ∙ pow-add 2 (suc x - 125) 124 in
     let c : 8388608 + t ≡ t + 8388608 = omega arith in
-    ap (λ z. z * 2 ^ x * 2 ^ 24) c
-    ∙ ap (λ z. (t + 8388608) * z * 2 ^ 24) p
-    ∙ ap (λ z. z * 2 ^ 24) (sym (mul-assoc (t + 8388608) (2 ^ (suc x - 126)) (2 ^ 125)))
-    ∙ mul-assoc ((t + 8388608) * 2 ^ (suc x - 126)) (2 ^ 125) (2 ^ 24)
+    ap (λ z. z * 2 ^ x * 2 ^ 25) c
+    ∙ ap (λ z. (t + 8388608) * z * 2 ^ 25) p
+    ∙ ap (λ z. z * 2 ^ 25) (sym (mul-assoc (t + 8388608) (2 ^ (suc x - 125)) (2 ^ 124)))
+    ∙ mul-assoc ((t + 8388608) * 2 ^ (suc x - 125)) (2 ^ 124) (2 ^ 25)
 
 pub limited-low : (n : ℕ) → n ≤ 2139095040 → n / 8388608 < 126 → limited (ofBits binary32 n) ≡ 0
 limited-low n h l =
@@ -91,33 +100,46 @@ limited-low n h l =
 at-ones : (s : Bool) (t x : ℕ) → x ≡ 255 → t ≡ 0 → ofFields binary32 s x t ≡ inf s
 at-ones s t x e z = ap (λ y. ofFields binary32 s y t) e ∙ ap (λ y. ofFields binary32 s 255 y) z ∙ (unfold ofFields in refl)
 
-pub limited-high : (n : ℕ) → n ≤ 2139095040 → 134 ≤ n / 8388608 → limited (ofBits binary32 n) ≡ 127
-limited-high n h l = ap limited (fields-of n h) ∙ go (n / 8388608) (n % 8388608) l (λ k. omega arith) (omega arith)
+pub limited-high : (n : ℕ) → n ≤ 2139095040 → 0x42fe0000 ≤ n → limited (ofBits binary32 n) ≡ 127
+limited-high n h l = ap limited (fields-of n h) ∙ go (n / 8388608) (n % 8388608) (omega arith) (omega arith) (λ k. omega arith) (omega arith)
   where
-    go : (x t : ℕ) → 134 ≤ x → (255 ≤ x → (x ≡ 255) × (t ≡ 0)) → x ≤ 255 → limited (ofFields binary32 false x t) ≡ 127
-    go x t l k m = elim (eq-or-lt-of-le m) [
+    go : (x t : ℕ) → 0x42fe0000 ≤ x * 8388608 + t → t < 8388608 → (255 ≤ x → (x ≡ 255) × (t ≡ 0)) → x ≤ 255
+        → limited (ofFields binary32 false x t) ≡ 127
+    go x t l d k m = elim (eq-or-lt-of-le m) [
       | inl e ↦ ap limited (at-ones false t x e (k (le-of-eq (sym e)) .1))
-      | inr i ↦ limited-val x t i ∙ at-limit (val x t) (2 ^ 149) (pow-pos 149) (val-high x t l)
+      | inr i ↦ limited-val x t i ∙ at-limit (val x t) (2 ^ 149) (pow-pos 149) (val-high x t l d)
     ]
 
-pub limited-mid : (n : ℕ) → n ≤ 2139095040 → 126 ≤ n / 8388608 → n / 8388608 < 134
-    → limited (ofBits binary32 n) ≡ min 127 (rounded ((n % 8388608 + 8388608) * 2 ^ (n / 8388608 - 126)) 16777216)
-limited-mid n h l k =
-    let x = n / 8388608 in
-    let t = n % 8388608 in
-    ap limited (fields-of n h)
-    ∙ limited-val x t (omega arith)
-    ∙ ap (min 127) (rounded-same (val x t) (2 ^ 149) ((t + 8388608) * 2 ^ (x - 126)) 16777216 (pow-pos 149) (pow-pos 24) (val-mid x t l k))
+-- 0x3e800000 is the pattern of 1/4.
+module _ (n : ℕ) (l : 0x3e800000 ≤ n) (k : n ≤ 0x42fe0000) where
+  -- The digits, shifted: the size in parts of 2 ^ -25.
+  abbrev pub parts : ℕ
+  parts = (n % 8388608 + 8388608) * 2 ^ (n / 8388608 - 125)
 
--- The shift loses nothing,
-pub shifted : (n : ℕ) → 126 ≤ n / 8388608 → n / 8388608 < 134
-    → (n % 8388608 + 8388608) * 2 ^ (n / 8388608 - 126) % 2 ^ 32 ≡ (n % 8388608 + 8388608) * 2 ^ (n / 8388608 - 126)
-shifted n l k = shl-exact 24 (n / 8388608 - 126) 32 (omega arith) (omega arith)
+  pub limited-mid : limited (ofBits binary32 n) ≡ min 127 (rounded parts 33554432)
+  limited-mid =
+      let x = n / 8388608 in
+      let t = n % 8388608 in
+      ap limited (fields-of n (omega arith))
+      ∙ limited-val x t (omega arith)
+      ∙ ap (min 127) (rounded-same (val x t) (2 ^ 149) ((t + 8388608) * 2 ^ (x - 125)) 33554432 (pow-pos 149) (pow-pos 25) (val-mid x t (omega arith)))
 
--- and stays below 2 ^ 31.
-pub shifted-lt : (n : ℕ) → 126 ≤ n / 8388608 → n / 8388608 < 134 → (n % 8388608 + 8388608) * 2 ^ (n / 8388608 - 126) % 2 ^ 32 < 2147483648
-shifted-lt n l k =
-    rw (shifted n l k) (lt-of-lt-of-le (shl-lt 24 (n / 8388608 - 126) (omega arith)) (pow-mono {i = 24 + (n / 8388608 - 126)} {j = 31} (omega arith)))
+  -- The shift loses nothing,
+  pub shifted : parts % 2 ^ 32 ≡ parts
+  shifted = shl-exact 24 (n / 8388608 - 125) 32 (omega arith) (omega arith)
+
+  -- and goes to 127 at most.
+  pub shifted-le : parts % 2 ^ 32 ≤ 4261412864
+  shifted-le = rw shifted (go (decLt (n / 8388608) 133))
+    where
+      go : Dec (n / 8388608 < 133) → parts ≤ 4261412864
+      go (yes i) =
+          le-trans (le-of-lt (shl-lt 24 (n / 8388608 - 125) (omega arith)))
+          (le-trans (pow-mono {i = 24 + (n / 8388608 - 125)} {j = 31} (omega arith)) (lit≤ tt))
+      go (no i) =
+          let e : n / 8388608 - 125 ≡ 8 = omega arith in
+          let d : n % 8388608 + 8388608 ≤ 16646144 = omega arith in
+          subst (λ s. (n % 8388608 + 8388608) * 2 ^ s ≤ 4261412864) (sym e) (mul-le-mul-right 256 d)
 
 -- ---- a pattern with its sign taken off
 

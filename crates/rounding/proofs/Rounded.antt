@@ -44,7 +44,7 @@ pick-by P a b h under half over = go (compare (a % b * 2) b) (cmp (a % b * 2) b)
     go Ordering·gt k = over k
 
 -- The rounding sends a half outward,
-pub rounded-pick : (a b : ℕ) → rounded a b ≡ pick a b (suc (a / b))
+rounded-pick : (a b : ℕ) → rounded a b ≡ pick a b (suc (a / b))
 unfolding rounded
 rounded-pick a b = refl
 
@@ -100,7 +100,7 @@ closest-half a b B = rw (closest-pick a b) (pick-half a b (a / b + a / b % 2) B 
 
 -- ---- a half added and the whole part taken
 
-pub rounded-added : (a b : ℕ) → 0 < b → rounded a b ≡ (a * 2 + b) / (b * 2)
+rounded-added : (a b : ℕ) → 0 < b → rounded a b ≡ (a * 2 + b) / (b * 2)
 rounded-added a b B =
     let w = div-add-mod' a b in
     let l = mod-lt a B in
@@ -122,9 +122,9 @@ rounded-added a b B =
         let f : suc q * b ≡ q * b + b = suc-mul q b in
         whole (suc q) (r * 2 - b) (omega arith) (omega arith)
 
--- Over 2 ^ 24.
-pub rounded-sum : (w : ℕ) → rounded w 16777216 ≡ (w + 8388608) / 16777216
-rounded-sum w = let e = rounded-added w 16777216 (lit< tt) in omega arith
+-- Over 2 ^ 25.
+pub rounded-sum : (w : ℕ) → rounded w 33554432 ≡ (w + 16777216) / 33554432
+rounded-sum w = let e = rounded-added w 33554432 (lit< tt) in omega arith
 
 -- At q and a half it is q + 1.
 pub rounded-outward : (a b q : ℕ) → 0 < b → a * 2 ≡ (q * 2 + 1) * b → rounded a b ≡ q + 1

@@ -9,13 +9,32 @@ ghost use lib.Ieee.Scale.{finite};
 ghost use Rattle.rounding.specs.Rounding.{rounded, limited, nearestLimited};
 ghost use Rattle.soft_value.specs.Value.{softValue};
 
-// w / 2^24 to the nearest whole number, limited to 127: a half is added, and the whole part taken.
+// w / 2^25 to the nearest whole number: a half is added, and the whole part taken.
 fn nearest(w: u32) -> u8
-    requires { ⌜ w < 2147483648 ⌝ }
-    ensures { λ r. ⌜ r ≡ min 127 (rounded w 16777216) ⌝ }
+    requires { ⌜ w ≤ 4261412864 ⌝ }
+    ensures { λ r. ⌜ r ≡ min 127 (rounded w 33554432) ⌝ }
 {
-    let n = (w + 8388608) / 16777216;
-    if n < 127 { n as u8 } else { 127 }
+    ((w + 16777216) / 33554432) as u8
+}
+
+// The patterns of 1/4, which goes to 0, and of 127.
+const LEAST: u32 = 0x3e800000;
+
+const GREATEST: u32 = 0x42fe0000;
+
+// A pattern without its sign, limited to these two.
+fn limited_pattern(pattern: u32) -> u32
+    requires { ⌜ pattern ≤ 2139095040 ⌝ }
+    ensures { λ r. ⌜ (0x3e800000 ≤ r) × (r ≤ 0x42fe0000) × (limited (ofBits binary32 r) ≡ limited (ofBits binary32 pattern)) ⌝ }
+{
+    if pattern < LEAST {
+        return LEAST;
+    }
+    if pattern < GREATEST {
+        pattern
+    } else {
+        GREATEST
+    }
 }
 
 // The limited size of the number whose pattern, without its sign, is given.
@@ -23,15 +42,9 @@ fn magnitude(pattern: u32) -> u8
     requires { ⌜ pattern ≤ 2139095040 ⌝ }
     ensures { λ r. ⌜ r ≡ limited (ofBits binary32 pattern) ⌝ }
 {
-    let field = pattern / 8388608;
-    if field < 126 {
-        return 0;
-    }
-    if field >= 134 {
-        return 127;
-    }
-    let digits = pattern % 8388608 + 8388608;
-    nearest(digits << (field - 126))
+    let within = limited_pattern(pattern);
+    let digits = within % 8388608 + 8388608;
+    nearest(digits << (within / 8388608 - 125))
 }
 
 // A product to the nearest whole number, limited to -127 to 127.
@@ -40,11 +53,8 @@ fn nearest_limited(p: f32) -> i8
     ensures { λ r. ⌜ r ≡ nearestLimited p ⌝ }
 {
     let pattern = f32::to_bits(p);
-    if pattern < 2147483648 {
-        magnitude(pattern) as i8
-    } else {
-        0 - (magnitude(pattern - 2147483648) as i8)
-    }
+    let size = magnitude(pattern % 2147483648) as i8;
+    if pattern < 2147483648 { size } else { 0 - size }
 }
 
 // The soft value of an amplitude.

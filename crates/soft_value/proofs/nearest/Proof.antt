@@ -5,17 +5,14 @@ use borrow.Author.Needs.{needs}
 use Rattle.soft_value.proofs.nearest.Statement.{statement}
 use Rattle.soft_value.proofs.nearest.Tie as tie
 
-add-n : tie.Need-add-n
-add-n c = search needs
+add-result : tie.Need-add-result
+add-result c = search needs
 
 cast-result : tie.Need-cast-result
 cast-result c = search needs
 
 returns : tie.Need-returns
-returns c = let e = rounded-sum (c .before .args .w) in omega arith
-
-returns-2 : tie.Need-returns-2
-returns-2 c = let e = rounded-sum (c .before .args .w) in omega arith
+returns c = let e = rounded-sum (c .args .w) in omega arith
 
 pub nearest-spec : {M : Type 1} → statement M
-nearest-spec = tie.close (tie.spec add-n cast-result returns returns-2)
+nearest-spec = tie.close (tie.spec add-result cast-result returns)
