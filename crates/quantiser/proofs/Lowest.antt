@@ -1,7 +1,8 @@
 -- Laws of the lowest index of which a test holds. Assumes nothing.
-use mathlib.Core.Path.{_≡_, refl, sym, _∙_}
+use mathlib.Core.Path.{_≡_, refl, sym, ap, ap₂, _∙_}
 use mathlib.Core.Bool.{Bool, true, false, false≢true}
-use Prim.Native.Nat.{ℕ, zero, suc, _≤_, _<_}
+use Prim.Native.Nat.{ℕ, zero, suc, _+_, _-_, _*_, _≤_, _<_}
+use native.Mathlib.Nat.{mul-add}
 use native.Mathlib.Decide.{decLt}
 use native.Mathlib.Omega.{arith}
 use Rattle.quantiser.specs.Marks.{lowest}
@@ -56,3 +57,31 @@ lowest-none n f h = go (decLt (lowest n f) n)
     go : Dec (lowest n f < n) → lowest n f ≡ n
     go (yes a) = absurd (false≢true (sym (h (lowest n f) a) ∙ lowest-found n f a))
     go (no a) = let l = lowest-le n f in omega arith
+
+-- Tests that agree below n have the same.
+pub lowest-cong : (n : ℕ) (f g : ℕ → Bool) → ((i : ℕ) → i < n → f i ≡ g i) → lowest n f ≡ lowest n g
+unfolding lowest
+lowest-cong zero f g h = refl
+lowest-cong (suc n) f g h =
+    ap₂ (λ b l. elim b [ true ↦ 0 | false ↦ suc l ]) (h zero (omega arith))
+    (lowest-cong n (λ i. f (suc i)) (λ i. g (suc i)) (λ i l. h (suc i) (omega arith)))
+
+-- ---- a search by blocks of w: it has passed n of them, and the answer of the next is given
+module _ (w n side : ℕ) (f : ℕ → Bool) (h : (k : ℕ) → k < w * n → f k ≡ false) (e : side ≡ lowest w (λ j. f (w * n + j))) where
+  before : (k : ℕ) → k < w * n + side → f k ≡ false
+  before k l = go (decLt k (w * n))
+    where
+      go : Dec (k < w * n) → f k ≡ false
+      go (yes a) = h k a
+      go (no a) =
+          let q : k ≡ w * n + (k - w * n) = omega arith in
+          ap f q ∙ lowest-before w (λ j. f (w * n + j)) (k - w * n) (omega arith)
+
+  -- It is found in this block,
+  pub found : (all : ℕ) → w * n + side < all → side < w → w * n + side ≡ lowest all f
+  found all la l =
+      sym (lowest-is all f (w * n + side) la before (ap (λ j. f (w * n + j)) e ∙ lowest-found w (λ j. f (w * n + j)) (omega arith)))
+
+  -- or this block is passed too.
+  pub passed : w ≤ side → (k : ℕ) → k < w * (n + 1) → f k ≡ false
+  passed l k lk = let s = mul-add w n 1 in before k (omega arith)

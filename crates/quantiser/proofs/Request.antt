@@ -4,7 +4,6 @@ use mathlib.Core.Path.{_≡_, refl, sym, ap, ap₂, _∙_}
 use mathlib.Core.Bool.{Bool, true, false, not, false≢true}
 use mathlib.Core.List.{List}
 use Prim.Native.Nat.{ℕ, zero, suc, _+_, _-_, _*_, _/_, _%_, _≤_, _<_}
-use native.Mathlib.Decide.{decLt}
 use native.Mathlib.Omega.{arith}
 use lib.Dec.{T}
 use lib.Ieee.{Float, nan}
@@ -22,7 +21,7 @@ use Rattle.quantiser.specs.Marks.{markAt, offends, valueOf, lowest, notF
 use Rattle.quantiser.specs.declared.Symbol.{Symbol}
 use Rattle.quantiser.specs.declared.Mark.{Mark}
 use Rattle.quantiser.specs.declared.Mark.the-variants.{Heard, Blanked}
-use Rattle.quantiser.proofs.Lowest.{lowest-found, lowest-before, lowest-is, lowest-none}
+use Rattle.quantiser.proofs.Lowest.{lowest-before, lowest-is, lowest-none, lowest-cong}
 
 -- ---- one mark
 
@@ -86,49 +85,12 @@ module _ (amplitudes : List Float) (blanked : List ℕ) where
 
   -- ---- the search
 
-  -- It has passed n marks.
-  abbrev pub Passed : ℕ → Type 0
-  Passed n = (k : ℕ) → k < 2 * n → notFinite amplitudes blanked k ≡ false
-
-  module _ (n side : ℕ) (h : Passed n) (e : side ≡ lowest 2 (offends (markAt amplitudes blanked n))) where
-    pub found : n < 128 → side < 2 → 2 * n + side ≡ firstNotFinite amplitudes blanked
-    unfolding firstNotFinite
-    found ln l = sym (lowest-is 256 (notFinite amplitudes blanked) (2 * n + side) (omega arith) before holds)
-      where
-        m : Mark
-        m = markAt amplitudes blanked n
-
-        before : (k : ℕ) → k < 2 * n + side → notFinite amplitudes blanked k ≡ false
-        before k lk = go (decLt k (2 * n))
-          where
-            go : Dec (k < 2 * n) → notFinite amplitudes blanked k ≡ false
-            go (yes a) = h k a
-            go (no a) =
-                let q : k ≡ 2 * n + (k - 2 * n) = omega arith in
-                ap (notFinite amplitudes blanked) q
-                ∙ offence-at n (k - 2 * n) (omega arith)
-                ∙ lowest-before 2 (offends (markAt amplitudes blanked n)) (k - 2 * n) (omega arith)
-
-        holds : notFinite amplitudes blanked (2 * n + side) ≡ true
-        holds =
-            offence-at n side l
-            ∙ ap (offends (markAt amplitudes blanked n)) e
-            ∙ lowest-found 2 (offends (markAt amplitudes blanked n)) (omega arith)
-
-    pub passed : 2 ≤ side → Passed (n + 1)
-    passed l k lk = go (decLt k (2 * n))
-      where
-        go : Dec (k < 2 * n) → notFinite amplitudes blanked k ≡ false
-        go (yes a) = h k a
-        go (no a) =
-            let q : k ≡ 2 * n + (k - 2 * n) = omega arith in
-            ap (notFinite amplitudes blanked) q
-            ∙ offence-at n (k - 2 * n) (omega arith)
-            ∙ lowest-before 2 (offends (markAt amplitudes blanked n)) (k - 2 * n) (omega arith)
-
-  pub passed-all : (n : ℕ) → 128 ≤ n → Passed n → 256 ≡ firstNotFinite amplitudes blanked
-  unfolding firstNotFinite
-  passed-all n l h = sym (lowest-none 256 (notFinite amplitudes blanked) (λ k lk. h k (omega arith)))
+  -- What is asked of one mark, as amplitudes of its byte.
+  pub mark-in-byte : (m j : ℕ) → lowest 2 (offends (markAt amplitudes blanked (8 * m + j))) ≡ lowest 2 (λ i. notFinite amplitudes blanked (16 * m + (2 * j + i)))
+  mark-in-byte m j = lowest-cong 2 _ _ (λ i l. sym (offence-at (8 * m + j) i l) ∙ ap (notFinite amplitudes blanked) (place i))
+    where
+      place : (i : ℕ) → 2 * (8 * m + j) + i ≡ 16 * m + (2 * j + i)
+      place i = omega arith
 
   -- Where none is found, every mark is sound.
   pub all-sound : firstNotFinite amplitudes blanked ≡ 256 → (n : ℕ) → n < 128 → Sound (markAt amplitudes blanked n)

@@ -1,13 +1,13 @@
 // Values from marks: received marks to soft values.
 ghost use mathlib.Core.Path.{_≡_};
 ghost use mathlib.Core.List.{_++_};
-ghost use Prim.Native.Nat.{_≤_, _<_};
+ghost use Prim.Native.Nat.{_+_, _*_, _≤_, _<_};
 ghost use lib.Dec.{T};
 ghost use lib.Ieee.Positive.{positive};
 ghost use lib.ListN.{length, drop};
 ghost use Rattle.base.specs.Bit.{tabulate};
 ghost use Rattle.answer.specs.Verdict.{verdict, done, settle};
-ghost use Rattle.quantiser.specs.Marks.{markAt, offends, pairOf, lowest, firstNotFinite, Sound, valueAt};
+ghost use Rattle.quantiser.specs.Marks.{markAt, offends, pairOf, lowest, notFinite, firstNotFinite, Sound, valueAt};
 ghost use Rattle.quantiser.specs.Jobs.{marksChecks, valuesFromMarks};
 use answer::Answer;
 
@@ -73,18 +73,34 @@ fn offending(m: Mark) -> usize
     }
 }
 
+// The same of the eight marks of byte m of the mask: which of their sixteen amplitudes, or 16 for none.
+fn offending_in_byte(amplitudes: &[f32], blanked: &[u8], m: usize) -> usize
+    requires { ⌜ (length (now amplitudes) ≡ 256) × (length (now blanked) ≡ 16) × (m < 16) ⌝ }
+    ensures { λ r. ⌜ r ≡ lowest 16 (λ i. notFinite (now (amplitudes .entry)) (now (blanked .entry)) (16 * m + i)) ⌝ }
+{
+    let mut j: usize = 0;
+    while j < 8 {
+        let side = offending(mark_at(amplitudes, blanked, 8 * m + j));
+        if side < 2 {
+            return 2 * j + side;
+        }
+        j += 1;
+    }
+    16
+}
+
 // The lowest amplitude of a heard mark that is not finite, or 256.
 fn first_not_finite(amplitudes: &[f32], blanked: &[u8]) -> usize
     requires { ⌜ (length (now amplitudes) ≡ 256) × (length (now blanked) ≡ 16) ⌝ }
     ensures { λ r. ⌜ r ≡ firstNotFinite (now (amplitudes .entry)) (now (blanked .entry)) ⌝ }
 {
-    let mut n: usize = 0;
-    while n < 128 {
-        let side = offending(mark_at(amplitudes, blanked, n));
-        if side < 2 {
-            return 2 * n + side;
+    let mut m: usize = 0;
+    while m < 16 {
+        let side = offending_in_byte(amplitudes, blanked, m);
+        if side < 16 {
+            return 16 * m + side;
         }
-        n += 1;
+        m += 1;
     }
     256
 }
