@@ -1,4 +1,4 @@
-//! Values from marks: every old case under the scale 32, and whole requests under all scales.
+//! Values from marks: the paper's cases and many more under the scale 32, and whole requests under all scales.
 use std::fs;
 
 use crate::frame::packed;

@@ -290,11 +290,10 @@ const HALF_INWARD: Rule = |_, rest| rest.is_gt();
 
 /// Mistaken ways to find a value.
 #[rustfmt::skip]
-const MISTAKES: [(&str, Way); 11] = [
+const MISTAKES: [(&str, Way); 10] = [
     ("32 whatever the scale", Way { factors: |_, x| (THIRTY_TWO, x), ..TRUE }),
     ("subnormal numbers as 0", Way { factors: without_subnormals, ..TRUE }),
     ("no rounding in f32", EXACT),
-    ("the product cut off in f32", Way { product: Some(|_, _| false), ..TRUE }),
     ("ties of the product towards zero", Way { product: Some(HALF_INWARD), ..TRUE }),
     ("an overflowed product as 0", Way { overflowed: 0, ..TRUE }),
     ("a half to the even neighbour", Way { whole: [half_to_even; 2], ..TRUE }),

@@ -122,7 +122,7 @@ fn bench_cases() {
     one(b"amplitude -0.0", -0.0);
 }
 
-// More halves, below zero and at the ends of the range: each goes to the neighbour farther from zero.
+// More halves, below zero and at the ends of the range.
 fn halves() {
     one(b"amplitude -0.015625", -0.015625);
     one(b"amplitude -0.046875", -0.046875);

@@ -96,9 +96,9 @@ fn first_not_finite(amplitudes: &[f32], blanked: &[u8]) -> usize
 {
     let mut m: usize = 0;
     while m < 16 {
-        let side = offending_in_byte(amplitudes, blanked, m);
-        if side < 16 {
-            return 16 * m + side;
+        let place = offending_in_byte(amplitudes, blanked, m);
+        if place < 16 {
+            return 16 * m + place;
         }
         m += 1;
     }

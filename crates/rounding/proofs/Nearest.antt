@@ -2,7 +2,7 @@
 use mathlib.Core.Path.{_≡_, refl, sym, ap, _∙_}
 use mathlib.Core.Logic.{_⊎_, inl, inr}
 use mathlib.Core.Bool.{Bool, true, false, cond}
-use Prim.Native.Nat.{ℕ, zero, suc, _+_, _-_, _*_, _%_, _≤_, _<_}
+use Prim.Native.Nat.{ℕ, zero, suc, _+_, _-_, _*_, _≤_, _<_}
 use native.Mathlib.Nat.{mul-le-mul-right, suc-mul}
 use native.Mathlib.Decide.{decLt}
 use native.Mathlib.Omega.{arith}
@@ -125,7 +125,7 @@ pub steps-nearest : (scale x : Float) → (let p = mul binary32 x scale in
     T (finite p) → (n : ℤ) → apart p (signed (isNegative p) (steps p)) ≤ apart p n)
 steps-nearest scale x = near-all (mul binary32 x scale)
 
--- At a half, where its size is q and 1/2, they are q + 1: of the two neighbours the one farther from zero.
+-- At a half, where its size is q + 1/2, they are q + 1: of the two neighbours the one farther from zero.
 pub steps-outward : (scale x : Float) → (let p = mul binary32 x scale in
     T (finite p) → (q : ℕ) → num p * 2 ≡ (q * 2 + 1) * den p → steps p ≡ q + 1)
 steps-outward scale x = outward-all (mul binary32 x scale)

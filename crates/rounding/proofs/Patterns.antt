@@ -1,7 +1,7 @@
 -- The bit patterns of binary32, and the limited size of the number that each stands for. Assumes nothing.
 -- A pattern is a sign, an exponent field of eight bits and 23 digits: 2147483648 is 2 ^ 31 and 8388608 is 2 ^ 23.
 use mathlib.Core.Path.{_≡_, refl, sym, ap, _∙_, subst}
-use Prim.Native.Nat.{ℕ, zero, suc, _+_, _-_, _*_, _/_, _%_, _^_, min, _≤_, _<_}
+use Prim.Native.Nat.{ℕ, zero, suc, _+_, _-_, _*_, _/_, _%_, _^_, min, max, _≤_, _<_}
 use native.Mathlib.Nat.{le-trans, le-of-eq, le-of-lt, lt-of-lt-of-le, not-le-of-lt, mod-eq-of-lt, mul-assoc, mul-le-mul, mul-le-mul-right, mul-lt-mul-of-pos-right, eq-or-lt-of-le}
 use native.Mathlib.Decide.{decLt}
 use native.Mathlib.Omega.{arith}
@@ -10,10 +10,10 @@ use mathlib.Core.Logic.{inl, inr}
 use lib.Dec.{T, lit≤, nltb→le, leb, eqb, leb→le, eqb→eq, not-T}
 use lib.Pow.{pow-pos, pow-mono, pow-add, shl-lt, shl-exact}
 use lib.Ieee.{Float, nan, inf, binary32, odd, ofFields, ofBits, toBits, fits, isNan}
-use lib.Ieee.Bits.{is-false, cond-no, ofBits-toBits, toBits-lt, nanBits-is, nanBits-above}
+use lib.Ieee.Bits.{is-false, cond-no, ofBits-toBits, nanBits-is, nanBits-above}
 use lib.Ieee.Exact.{HasValue, odd-sign}
 use Rattle.rounding.specs.Rounding.{rounded, limited, isNegative}
-use Rattle.rounding.proofs.Rounded.{odd-negative, limited-of, rounded-same, to-zero, at-limit}
+use Rattle.rounding.proofs.Rounded.{odd-negative, limited-of, rounded-same, rounded-sum, to-zero, at-limit}
 
 -- ---- the fields of a pattern
 
@@ -116,21 +116,13 @@ module _ (n : ℕ) (l : 0x3e800000 ≤ n) (k : n ≤ 0x42fe0000) where
   abbrev pub parts : ℕ
   parts = (n % 8388608 + 8388608) * 2 ^ (n / 8388608 - 125)
 
-  pub limited-mid : limited (ofBits binary32 n) ≡ min 127 (rounded parts 33554432)
-  limited-mid =
-      let x = n / 8388608 in
-      let t = n % 8388608 in
-      ap limited (fields-of n (omega arith))
-      ∙ limited-val x t (omega arith)
-      ∙ ap (min 127) (rounded-same (val x t) (2 ^ 149) ((t + 8388608) * 2 ^ (x - 125)) 33554432 (pow-pos 149) (pow-pos 25) (val-mid x t (omega arith)))
-
   -- The shift loses nothing,
   pub shifted : parts % 2 ^ 32 ≡ parts
   shifted = shl-exact 24 (n / 8388608 - 125) 32 (omega arith) (omega arith)
 
   -- and goes to 127 at most.
-  pub shifted-le : parts % 2 ^ 32 ≤ 4261412864
-  shifted-le = rw shifted (go (decLt (n / 8388608) 133))
+  parts-le : parts ≤ 4261412864
+  parts-le = go (decLt (n / 8388608) 133)
     where
       go : Dec (n / 8388608 < 133) → parts ≤ 4261412864
       go (yes i) =
@@ -140,6 +132,31 @@ module _ (n : ℕ) (l : 0x3e800000 ≤ n) (k : n ≤ 0x42fe0000) where
           let e : n / 8388608 - 125 ≡ 8 = omega arith in
           let d : n % 8388608 + 8388608 ≤ 16646144 = omega arith in
           subst (λ s. (n % 8388608 + 8388608) * 2 ^ s ≤ 4261412864) (sym e) (mul-le-mul-right 256 d)
+
+  pub shifted-le : parts % 2 ^ 32 ≤ 4261412864
+  shifted-le = rw shifted parts-le
+
+  -- So the limit changes nothing.
+  pub limited-mid : limited (ofBits binary32 n) ≡ rounded parts 33554432
+  limited-mid =
+      let x = n / 8388608 in
+      let t = n % 8388608 in
+      ap limited (fields-of n (omega arith))
+      ∙ limited-val x t (omega arith)
+      ∙ ap (min 127) (rounded-same (val x t) (2 ^ 149) parts 33554432 (pow-pos 149) (pow-pos 25) (val-mid x t (omega arith)))
+      ∙ within parts parts-le
+    where
+      within : (w : ℕ) → w ≤ 4261412864 → min 127 (rounded w 33554432) ≡ rounded w 33554432
+      within w l = let e = rounded-sum w in omega arith
+
+-- A pattern limited to these two goes where it went.
+pub limited-within : (n : ℕ) → n ≤ 2139095040 → limited (ofBits binary32 (min 0x42fe0000 (max 0x3e800000 n))) ≡ limited (ofBits binary32 n)
+limited-within n h = go (decLt n 0x3e800000) (decLt n 0x42fe0000)
+  where
+    go : Dec (n < 0x3e800000) → Dec (n < 0x42fe0000) → limited (ofBits binary32 (min 0x42fe0000 (max 0x3e800000 n))) ≡ limited (ofBits binary32 n)
+    go (yes l) _ = limited-low _ (omega arith) (omega arith) ∙ sym (limited-low n h (omega arith))
+    go (no l) (yes k) = let e : min 0x42fe0000 (max 0x3e800000 n) ≡ n = omega arith in ap (λ x. limited (ofBits binary32 x)) e
+    go (no l) (no k) = limited-high _ (omega arith) (omega arith) ∙ sym (limited-high n h (omega arith))
 
 -- ---- a pattern with its sign taken off
 
@@ -197,6 +214,3 @@ module _ (p : Float) (held : T (fits binary32 p)) where
       let e : p ≡ ofFields binary32 (leb 2147483648 b) (b % 2147483648 / 8388608) (b % 8388608) = sym (ofBits-toBits binary32 p held) ∙ ofBits-is b in
       ap isNegative e
       ∙ fields-negative (leb 2147483648 b) (b % 2147483648 / 8388608) (b % 8388608) (subst (λ v. T (not (isNan v))) e n)
-
-  pub pattern-lt : toBits binary32 p < 4294967296
-  pattern-lt = toBits-lt binary32 p held

@@ -29,16 +29,20 @@ cmp a b = go (compare a b) (leb→le a b) (nleb→lt a b) (eqb→eq a b) (λ e. 
     go Ordering·eq h k e n = e tt
     go Ordering·gt h k e n = k tt
 
--- The whole number nearest to a / b, where a half goes to h.
+-- The whole number nearest to a fraction with the whole part q, where a half goes to h, by how its rest lies to a half.
+abbrev picked : ℕ → ℕ → Ordering → ℕ
+picked q h o = elim o [ Ordering·lt ↦ q | Ordering·eq ↦ h | Ordering·gt ↦ suc q ]
+
+-- That of a / b.
 abbrev pick : ℕ → ℕ → ℕ → ℕ
-pick a b h = elim (compare (a % b * 2) b) [ Ordering·lt ↦ a / b | Ordering·eq ↦ h | Ordering·gt ↦ suc (a / b) ]
+pick a b h = picked (a / b) h (compare (a % b * 2) b)
 
 -- What is shown of each of the three cases holds of it.
 pick-by : (P : ℕ → Type 0) (a b h : ℕ)
     → (a % b * 2 < b → P (a / b)) → (a % b * 2 ≡ b → P h) → (b < a % b * 2 → P (suc (a / b))) → P (pick a b h)
 pick-by P a b h under half over = go (compare (a % b * 2) b) (cmp (a % b * 2) b)
   where
-    go : (o : Ordering) → Cmp o (a % b * 2) b → P (elim o [ Ordering·lt ↦ a / b | Ordering·eq ↦ h | Ordering·gt ↦ suc (a / b) ])
+    go : (o : Ordering) → Cmp o (a % b * 2) b → P (picked (a / b) h o)
     go Ordering·lt k = under k
     go Ordering·eq k = half k
     go Ordering·gt k = over k
@@ -52,7 +56,7 @@ rounded-pick a b = refl
 closest-pick : (a b : ℕ) → closest a b ≡ pick a b (a / b + a / b % 2)
 closest-pick a b = go (compare (a % b * 2) b)
   where
-    go : (o : Ordering) → nearest (a / b) o ≡ elim o [ Ordering·lt ↦ a / b | Ordering·eq ↦ a / b + a / b % 2 | Ordering·gt ↦ suc (a / b) ]
+    go : (o : Ordering) → nearest (a / b) o ≡ picked (a / b) (a / b + a / b % 2) o
     go Ordering·lt = refl
     go Ordering·eq = refl
     go Ordering·gt = refl
@@ -126,7 +130,7 @@ rounded-added a b B =
 pub rounded-sum : (w : ℕ) → rounded w 33554432 ≡ (w + 16777216) / 33554432
 rounded-sum w = let e = rounded-added w 33554432 (lit< tt) in omega arith
 
--- At q and a half it is q + 1.
+-- At q + 1/2 it is q + 1.
 pub rounded-outward : (a b q : ℕ) → 0 < b → a * 2 ≡ (q * 2 + 1) * b → rounded a b ≡ q + 1
 rounded-outward a b q B h =
     let e : (q * 2 + 1) * b ≡ q * 2 * b + 1 * b = add-mul (q * 2) 1 b in

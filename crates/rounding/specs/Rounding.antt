@@ -1,7 +1,7 @@
 -- The nearest whole number to a binary32 number, limited to the range of the soft values. Assumes nothing.
 -- A finite number is `fin s m e`: m * 2 ^ e, negative where s is true. Its power 2 ^ e is the fraction up e / down e.
 use mathlib.Core.Bool.{Bool, true, false}
-use Prim.Native.Nat.{ℕ, suc, _+_, _*_, _/_, _%_, min, compare, Ordering·lt, Ordering·eq, Ordering·gt}
+use Prim.Native.Nat.{ℕ, suc, _*_, _/_, _%_, min, compare, Ordering·lt, Ordering·eq, Ordering·gt}
 use lib.IntN.{ℤ, pos, negℤ}
 use lib.Ieee.{Float, nan, inf, fin, up, down}
 

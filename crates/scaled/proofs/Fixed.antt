@@ -1,4 +1,4 @@
--- With scale 32 values from marks is what it was with the fixed factor. Assumes nothing.
+-- With scale 32 values from marks is the job with the fixed factor, by today's rounding. Assumes nothing.
 use mathlib.Core.Path.{_≡_, refl, ap}
 use mathlib.Core.Bool.{Bool, true, false}
 use mathlib.Core.List.{List}

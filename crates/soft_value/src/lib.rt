@@ -1,7 +1,7 @@
 // One soft value: the product of an amplitude and a scale, rounded once in f32, to the nearest whole number in range.
 ghost use mathlib.Core.Path.{_≡_};
 ghost use mathlib.Core.Bool.{not};
-ghost use Prim.Native.Nat.{min, _≤_, _<_};
+ghost use Prim.Native.Nat.{min, max, _≤_};
 ghost use lib.Dec.{T};
 ghost use lib.Ieee.{binary32, isNan, ofBits};
 ghost use lib.Ieee.Positive.{positive};
@@ -9,10 +9,10 @@ ghost use lib.Ieee.Scale.{finite};
 ghost use Rattle.rounding.specs.Rounding.{rounded, limited, nearestLimited};
 ghost use Rattle.soft_value.specs.Value.{softValue};
 
-// w / 2^25 to the nearest whole number: a half is added, and the whole part taken.
+// w / 2^25, which is at most 127, to the nearest whole number: a half is added, and the whole part taken.
 fn nearest(w: u32) -> u8
     requires { ⌜ w ≤ 4261412864 ⌝ }
-    ensures { λ r. ⌜ r ≡ min 127 (rounded w 33554432) ⌝ }
+    ensures { λ r. ⌜ r ≡ rounded w 33554432 ⌝ }
 {
     ((w + 16777216) / 33554432) as u8
 }
@@ -24,8 +24,7 @@ const GREATEST: u32 = 0x42fe0000;
 
 // A pattern without its sign, limited to these two.
 fn limited_pattern(pattern: u32) -> u32
-    requires { ⌜ pattern ≤ 2139095040 ⌝ }
-    ensures { λ r. ⌜ (0x3e800000 ≤ r) × (r ≤ 0x42fe0000) × (limited (ofBits binary32 r) ≡ limited (ofBits binary32 pattern)) ⌝ }
+    ensures { λ r. ⌜ r ≡ min 0x42fe0000 (max 0x3e800000 pattern) ⌝ }
 {
     if pattern < LEAST {
         return LEAST;

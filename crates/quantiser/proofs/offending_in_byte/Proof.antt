@@ -42,7 +42,7 @@ returns c =
     let a = c .before .before .before .before .before .before .before .args in
     let l = c .before .before .before .before .loop in
     found 2 (l .j) (c .before .offending .result) (λ i. notFinite (a .amplitudes .now) (a .blanked .now) (16 * a .m + i)) (l .inv .1)
-    (c .before .offending .ensures ∙ ap (λ m. lowest 2 (offends m)) (c .before .before .mark-at .ensures) ∙ mark-in-byte (a .amplitudes .now) (a .blanked .now) (a .m) (l .j))
+    (c .before .offending .ensures ∙ ap (λ m. lowest 2 (offends m)) (c .before .before .mark-at .ensures) ∙ mark-in-byte _ _ _ _)
     16 (omega (arith, c .before .before .before .loop-test .taken, c .if1 .taken)) (c .if1 .taken)
 
 add-j : tie.Need-add-j Inv-loop μ-loop
@@ -58,7 +58,7 @@ loop-again c =
     let k = c .before .before .before .loop-test .taken in (
       omega arith,
       passed 2 (l .j) (c .before .offending .result) (λ i. notFinite (a .amplitudes .now) (a .blanked .now) (16 * a .m + i)) (l .inv .1)
-          (c .before .offending .ensures ∙ ap (λ m. lowest 2 (offends m)) (c .before .before .mark-at .ensures) ∙ mark-in-byte (a .amplitudes .now) (a .blanked .now) (a .m) (l .j))
+          (c .before .offending .ensures ∙ ap (λ m. lowest 2 (offends m)) (c .before .before .mark-at .ensures) ∙ mark-in-byte _ _ _ _)
           (c .if1 .left),
     )
 
