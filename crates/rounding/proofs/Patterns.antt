@@ -120,7 +120,7 @@ module _ (n : ℕ) (l : 0x3e800000 ≤ n) (k : n ≤ 0x42fe0000) where
   pub shifted : parts % 2 ^ 32 ≡ parts
   shifted = shl-exact 24 (n / 8388608 - 125) 32 (omega arith) (omega arith)
 
-  -- and goes to 127 at most.
+  -- and the size is at most 127: 4261412864 is 127 * 2 ^ 25.
   parts-le : parts ≤ 4261412864
   parts-le = go (decLt (n / 8388608) 133)
     where
