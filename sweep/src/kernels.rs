@@ -125,7 +125,7 @@ fn round_trip(tally: &mut Tally, kernels: &[Kernel]) {
             (digest * 65599 + u64::from(word)) % 2147483647
         });
         want.push(format!(
-            "kernel {}: all came back, digest {digest}",
+            "kernel {}: all came back, all the same bit by bit, digest {digest}",
             kernel.number
         ));
     }

@@ -1,4 +1,5 @@
-// Kernel encode and kernel undo over all 65,536 symbol words of each kernel: whether each comes back, and a digest of the words.
+// Kernel encode and kernel undo over all 65,536 symbol words of each kernel: whether each comes back, whether its word made bit
+// by bit is the same, and a digest of the words.
 ghost use mathlib.Core.Path.{_≡_};
 use answer::Answer;
 use libc::STDOUT_FILENO;
@@ -46,15 +47,40 @@ fn all_words(kernel: u8) -> Tally {
     t
 }
 
+fn same_word(kernel: u8, symbols: u16) -> bool {
+    let by_rows = answer::word(kernel::kernel_encode(kernel, symbols));
+    let by_bits = answer::word(bitwise::encode_by_bits(kernel, symbols));
+    by_rows == by_bits
+}
+
+// Whether every word is the same made bit by bit.
+fn same_words(kernel: u8) -> bool {
+    let mut same = true;
+    let mut u: u32 = 0;
+    while u < 65536 {
+        if !same_word(kernel, (u % 65536) as u16) {
+            same = false;
+        }
+        u += 1;
+    }
+    same
+}
+
+fn say_all(all: bool, what: &[u8]) {
+    if !all {
+        io::write_all(STDOUT_FILENO, b"not ");
+    }
+    io::write_all(STDOUT_FILENO, b"all ");
+    io::write_all(STDOUT_FILENO, what);
+}
+
 fn report(kernel: u8) {
     let t = all_words(kernel);
     io::write_all(STDOUT_FILENO, b"kernel ");
     io::print_decimal(STDOUT_FILENO, kernel as u64);
-    if t.whole {
-        io::write_all(STDOUT_FILENO, b": all came back, digest ");
-    } else {
-        io::write_all(STDOUT_FILENO, b": not all came back, digest ");
-    }
+    io::write_all(STDOUT_FILENO, b": ");
+    say_all(t.whole, b"came back, ");
+    say_all(same_words(kernel), b"the same bit by bit, digest ");
     io::print_decimal(STDOUT_FILENO, t.digest);
     io::write_all(STDOUT_FILENO, b"\n");
 }
