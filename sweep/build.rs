@@ -1,4 +1,5 @@
-// Links the static library that `rt staticlib link` writes. NOSPRIDDA_LIB names another folder that has it.
+// Links the static libraries that `rt staticlib link` and `rt staticlib bitwise` write. NOSPRIDDA_LIB names another folder
+// that has them.
 use std::env;
 use std::path::PathBuf;
 
@@ -10,14 +11,16 @@ fn main() {
             PathBuf::from(env::var_os("CARGO_MANIFEST_DIR").unwrap()).join("../target/staticlib")
         }
     };
-    let library = folder.join("liblink.a");
-    println!("cargo:rerun-if-changed={}", library.display());
-    if !library.is_file() {
-        panic!(
-            "{} is not there: `rt staticlib link` writes it",
-            library.display()
-        );
-    }
     println!("cargo:rustc-link-search=native={}", folder.display());
-    println!("cargo:rustc-link-lib=static=link");
+    for name in ["link", "bitwise"] {
+        let library = folder.join(format!("lib{name}.a"));
+        println!("cargo:rerun-if-changed={}", library.display());
+        if !library.is_file() {
+            panic!(
+                "{} is not there: `rt staticlib {name}` writes it",
+                library.display()
+            );
+        }
+        println!("cargo:rustc-link-lib=static={name}");
+    }
 }

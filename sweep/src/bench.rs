@@ -10,7 +10,7 @@ use plain_decoder::Decoder;
 use crate::frame::bit_of;
 use crate::library::{
     frame_decode, frame_encode, frame_follow, frame_undo, information_mask, kernel_encode,
-    kernel_follow, kernel_undo, part_length, values_from_marks,
+    kernel_follow, kernel_undo, part_length, values_from_marks, word_by_bits, word_by_rows,
 };
 use crate::paper::Kernel;
 use crate::product::value;
@@ -26,10 +26,11 @@ const PAYLOAD: usize = 16;
 /// The scale of the marks.
 const SCALE: f32 = 32.0;
 
-/// The library's jobs, what each is called with, and what is timed beside it.
-const JOBS: [(&str, &[&str], &str); 10] = [
+/// The library's jobs and a kernel's word by whole rows, what each is called with, and what is timed beside it.
+const JOBS: [(&str, &[&str], &str); 11] = [
     ("kernel-encode", KERNELS, "-"),
     ("kernel-undo", KERNELS, "-"),
+    ("word-by-rows", KERNELS, "word-by-bits"),
     ("kernel-follow", KERNELS, "sweep-follow"),
     ("frame-encode", PAIRS, "-"),
     ("frame-undo", PAIRS, "-"),
@@ -119,7 +120,7 @@ impl Inputs {
             || self.sweep_job(job, count, out)
     }
 
-    /// The jobs of one kernel.
+    /// The jobs of one kernel, and both ways to its word.
     #[inline(never)]
     fn kernel_job(&self, job: &str, count: u64, out: &mut Outputs) -> bool {
         let (inner, scores) = (self.inner, &mut out.scores);
@@ -129,6 +130,12 @@ impl Inputs {
             }),
             "kernel-undo" => each(count, |i| {
                 black_box(kernel_undo(inner, self.words[i]));
+            }),
+            "word-by-rows" => each(count, |i| {
+                black_box(word_by_rows(inner, self.words[i]));
+            }),
+            "word-by-bits" => each(count, |i| {
+                black_box(word_by_bits(inner, self.words[i]));
             }),
             "kernel-follow" => each(count, |i| {
                 let (y, symbols) = (&self.values[i], self.words[i]);
@@ -298,7 +305,7 @@ fn received(word: &[u8; 32]) -> [i8; 256] {
 /// Nanoseconds of one call: the least of nine rounds.
 fn nanoseconds(inputs: &Inputs, job: &str) -> f64 {
     let calls = match job {
-        "kernel-encode" | "kernel-undo" => 1_000_000,
+        "kernel-encode" | "kernel-undo" | "word-by-rows" => 1_000_000,
         "frame-follow" | "frame-decode" | "plain-decode" => 500,
         "sweep-follow" | "sweep-values" => INPUTS as u64,
         _ => 10_000,
@@ -312,7 +319,7 @@ fn nanoseconds(inputs: &Inputs, job: &str) -> f64 {
         .fold(f64::INFINITY, f64::min)
 }
 
-/// One line for each job and kernel: nanoseconds of the library's call; what is timed beside it, and its nanoseconds.
+/// One line for each job and kernel: nanoseconds of a call; what is timed beside it, and its nanoseconds.
 pub fn times() -> ExitCode {
     println!("job kernel ns beside beside-ns");
     for (job, kernels, beside) in JOBS {

@@ -1,7 +1,8 @@
-//! Kernel encode and kernel undo: all 65,536 words of each kernel.
+//! Kernel encode and kernel undo: all 65,536 words of each kernel; and its words by whole rows and bit by bit.
 use std::fs;
+use std::time::Instant;
 
-use crate::library::WordOutcome;
+use crate::library::{word_by_bits, word_by_rows, WordOutcome};
 use crate::paper::{bit, Kernel};
 use crate::recorded::{kernel_encode, kernel_undo};
 use crate::tally::Tally;
@@ -21,9 +22,11 @@ pub fn sweep(tally: &mut Tally, kernels: &[Kernel]) {
         one_to_one(tally, kernel);
         encode(tally, kernel);
         undo(tally, kernel);
+        both_ways(tally, kernel);
     }
     rows(tally);
     refusals(tally);
+    refused_both_ways(tally);
     round_trip(tally, kernels);
 }
 
@@ -64,6 +67,39 @@ fn undo(tally: &mut Tally, kernel: &Kernel) {
         compare(tally, "undo", kernel.number, word, symbols, got);
     }
     tally.group(&format!("kernel {}, undo", kernel.number), 65536);
+}
+
+/// Each word by whole rows and bit by bit: both are the paper's. The times are of this run.
+fn both_ways(tally: &mut Tally, kernel: &Kernel) {
+    let number = kernel.number;
+    let (rows, rows_time) = all_words(|symbols| word_by_rows(number, symbols));
+    let (bits, bits_time) = all_words(|symbols| word_by_bits(number, symbols));
+    for (symbols, &want) in kernel.words.iter().enumerate() {
+        let (rows, bits) = (rows[symbols], bits[symbols]);
+        tally.expect(
+            rows == bits && rows == want,
+            format_args!(
+                "kernel {number}, word of {symbols:04x}: wanted {want:04x}, got {rows:04x} by whole rows and {bits:04x} bit by bit"
+            ),
+        );
+    }
+    tally.line(
+        format_args!(
+            "kernel {number}, each word both ways: 65536 cases, {rows_time:.2} ms by whole rows, {bits_time:.2} ms bit by bit"
+        ),
+        65536,
+    );
+}
+
+/// The words of all symbols, each put in the place of its symbols, and how many milliseconds that took.
+fn all_words(way: impl Fn(u16) -> u16) -> (Vec<u16>, f64) {
+    let mut words: Vec<u16> = (0..=u16::MAX).collect();
+    let start = Instant::now();
+    for word in &mut words {
+        *word = way(*word);
+    }
+    let time = start.elapsed();
+    (words, time.as_secs_f64() * 1e3)
 }
 
 /// An accepted job with this word, bit by bit.
@@ -115,6 +151,24 @@ fn refusals(tally: &mut Tally) {
         }
     }
     tally.group("kernels 3 to 255 refused", cases);
+}
+
+/// The same numbers, both ways to a word: it is 0.
+fn refused_both_ways(tally: &mut Tally) {
+    let mut cases = 0;
+    for kernel in 3..=u8::MAX {
+        for symbols in (0..=u16::MAX).step_by(257) {
+            let got = [word_by_rows(kernel, symbols), word_by_bits(kernel, symbols)];
+            tally.expect(
+                got == [0, 0],
+                format_args!(
+                    "kernel {kernel}, words of {symbols:04x}: wanted 0 and 0, got {got:?}"
+                ),
+            );
+            cases += 1;
+        }
+    }
+    tally.group("kernels 3 to 255 refused both ways", cases);
 }
 
 /// The lines of the program `round_trip`, from the paper alone.

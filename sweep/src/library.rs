@@ -1,4 +1,4 @@
-//! The library's jobs, through its C interface.
+//! The library's jobs, through its C interface, and the two ways to a kernel's word, for tests alone.
 
 /// The outcome of a job without a word.
 #[repr(C)]
@@ -85,6 +85,8 @@ extern "C" {
         values: *mut i8,
         values_length: usize,
     ) -> Outcome;
+    fn nospridda_test_word_by_rows(kernel: u8, symbols: u16) -> u16;
+    fn nospridda_test_word_by_bits(kernel: u8, symbols: u16) -> u16;
 }
 
 pub fn kernel_encode(kernel: u8, symbols: u16) -> WordOutcome {
@@ -224,4 +226,17 @@ pub fn values_from_marks(
             values.len(),
         )
     }
+}
+
+/// The word of kernel encode, 0 where it is refused: of `libbitwise.a`, which has kernel encode once more, so that this way and
+/// the next differ in the sum alone.
+pub fn word_by_rows(kernel: u8, symbols: u16) -> u16 {
+    // Safe for every input: it takes numbers only.
+    unsafe { nospridda_test_word_by_rows(kernel, symbols) }
+}
+
+/// The same word, made bit by bit.
+pub fn word_by_bits(kernel: u8, symbols: u16) -> u16 {
+    // Safe for every input: it takes numbers only.
+    unsafe { nospridda_test_word_by_bits(kernel, symbols) }
 }
