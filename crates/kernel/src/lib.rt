@@ -140,16 +140,19 @@ pub fn inverse_rows(kernel: u8) -> [u16; 16]
     INVERSE_ROWS[kernel as usize]
 }
 
-// The sum of the rows that the bits of x choose.
+// The sum of the rows that the bits of x choose. Every row is read, and one that is not chosen counts as 0, so that no branch is
+// needed. The bit is read here, from sixteen bits, and not by `word_bit`, which takes 32.
 pub fn row_sum(rows: [u16; 16], x: u16) -> u16
     ensures { λ r. ⌜ r ≡ rowSum rows x ⌝ }
 {
     let mut c: u16 = 0;
     let mut s: usize = 0;
     while s < 16 {
-        if bits::word_bit(x as u32, s) {
-            c = c ^ rows[s];
+        let mut row = rows[s];
+        if (x >> (15 - s)) % 2 == 0 {
+            row = 0;
         }
+        c = c ^ row;
         s += 1;
     }
     c
