@@ -50,18 +50,18 @@ const GATHER: [[u8; 16]; 16] = [
     [0, 1, 2, 3, 4, 5, 6, 7, 8, 9, 10, 11, 12, 13, 14, 15],
 ];
 
-// How many bits are set.
+// How many bits are set. The sum has sixteen bits, so that counts side by side need no more.
 pub fn count(s: &[u8]) -> usize
     requires { ⌜ length (now s) ≤ 4096 ⌝ }
     ensures { λ r. ⌜ r ≡ Payload.ones (unpack (now (s .entry))) ⌝ }
 {
-    let mut n: usize = 0;
+    let mut n: u16 = 0;
     let mut i: usize = 0;
     while i < s.len() {
-        n += u8::count_ones(s[i]) as usize;
+        n += u8::count_ones(s[i]) as u16;
         i += 1;
     }
-    n
+    n as usize
 }
 
 // Bytes i and i + 1, with 0 for those past the end.

@@ -50,6 +50,11 @@ loop-again c =
     let i = c .before .before .loop .i in
     (omega arith, omega (arith, count-bits 8 (getD s i 0) (c .shared-slice-known .given i .fits), ones-next s i (c .before .loop-test .taken)))
 
+cast-result : tie.Need-cast-result Inv-loop μ-loop
+cast-result c =
+    let s = c .before .before .args .s .now in
+    omega (arith, c .before .loop .inv .1, ones-le (unpack s), length-unpack s)
+
 returns : tie.Need-returns Inv-loop μ-loop
 unfolding ones unpack
 returns c =
@@ -70,4 +75,5 @@ count-spec =
     add-i
     loop-less
     loop-again
+    cast-result
     returns)
