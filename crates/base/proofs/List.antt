@@ -2,13 +2,13 @@
 use mathlib.Core.Path.{_≡_, refl, sym, ap, ap₂, _∙_}
 use mathlib.Core.Bool.{Bool, true, false, not, and-eq-true-iff, false≢true}
 use mathlib.Core.List.{List, [], _∷_, _++_, append-nil}
-use Prim.Native.Nat.{ℕ, zero, suc, _+_, _<_}
+use Prim.Native.Nat.{ℕ, zero, suc, _+_, _-_, _≤_, _<_}
 use native.Mathlib.Nat.{suc-add, zero-add, suc-inj}
 use native.Mathlib.Numerals.{add-one}
 use native.Mathlib.Decide.{decLt}
 use native.Mathlib.Omega.{arith}
 use lib.ListN.{length, getD, drop, set}
-use lib.Seq.{ext-getD, drop-cons, drop-length, set-at, append-snoc, getD-set-same, getD-set-other}
+use lib.Seq.{ext-getD, drop-cons, drop-length, set-at, append-snoc, getD-set-same, getD-set-other, getD-append-add, getD-drop}
 use Rattle.base.specs.Bit.{_⊕_, bit, tabulate, same, find}
 use Rattle.base.proofs.Bool.{⊕-same, ⊕-self}
 
@@ -53,6 +53,16 @@ fill-next {X = X} f n old z l e =
     ∙ sym (append-snoc (tabulate n f) (f n) (drop (suc n) old))
     ∙ ap (λ (l : List X). l ++ drop (suc n) old) (sym (tabulate-next n f f (λ i _. refl)))
     ∙ ap (λ m. filled f m old) (sym (add-one n))
+
+-- The others are as they were.
+pub fill-rest {ℓ} : {X : Type ℓ} (f : ℕ → X) (n : ℕ) (old : List X) (i : ℕ) (d : X) → n ≤ i → getD (filled f n old) i d ≡ getD old i d
+fill-rest f n old i d l =
+    let k : ℕ = i - n in
+    let e : i ≡ n + k = omega arith in
+    ap (λ m. getD (filled f n old) m d) (e ∙ ap (λ m. m + k) (sym (length-tabulate n f)))
+    ∙ getD-append-add (tabulate n f) (drop n old) k d
+    ∙ getD-drop n old k d
+    ∙ ap (λ m. getD old m d) (sym e)
 
 -- One more entry of which P holds is stored.
 pub each-next : {X : Type 0} (P : ℕ → X → Type 0) (out : List X) (n : ℕ) (d v : X) → n < length out

@@ -4,14 +4,14 @@ use mathlib.Core.Bool.{Bool, true, false, _&&_}
 use mathlib.Core.List.{List, [], _∷_, _++_, append-assoc, append-nil}
 use Prim.Native.Nat.{ℕ, zero, suc, _+_, _-_, _*_, _/_, _%_, _^_, _≤_, _<_, min, max}
 use native.Mathlib.Nat.{mod-lt, mod-one, mod-self, mod-eq-of-lt, div-self, div-eq-of-lt, zero-div, mul-add-mod-self-right, max-eq-right}
-use native.Mathlib.Nat.{zero-add, suc-add, suc-sub-suc, mul-suc, mul-assoc, add-mul, add-comm, zero-mul, one-mul, two-pow-succ, le-of-suc-le-suc, lt-of-lt-of-le, div-div-eq-div-mul}
+use native.Mathlib.Nat.{zero-add, suc-add, suc-sub-suc, mul-suc, mul-comm, mul-assoc, add-mul, add-comm, zero-mul, one-mul, two-pow-succ, le-of-suc-le-suc, lt-of-lt-of-le, div-div-eq-div-mul}
 use native.Mathlib.Numerals.{one-add, add-one}
 use native.Mathlib.Omega.{arith}
 use lib.Bits.{bitAnd, bitXor, bitOr, differ, and-shr, and-step, xor-shr, xor-step, or-shr, or-step, or-mod, or-zero-r}
 use lib.Count.{leadingZeros, leading-of-zero, leading-top}
 use lib.Dec.{eqb, lit<}
 use lib.ListN.{length, getD, set, take, drop, replicate, length-append, replicate-append-replicate, List·getD-append}
-use lib.Pow.{pow-pos, pow-mono, pow-lt, pow-add, high, mod-pow-add, mod-mod-pow, field, shl-exact, shr-lt, shr-mono}
+use lib.Pow.{pow-pos, pow-mono, pow-lt, pow-add, high, low, mod-pow-add, mod-mod-pow, field, shl-exact, shr-lt, shr-mono}
 use lib.Seq.{getD-append-add, set-append-left, set-at, drop-at, drop-nil, drop-cons, drop-drop, drop-append-add}
 use Rattle.base.specs.Bit.{bit, _⊕_, odd, tabulate, digit}
 use Rattle.base.proofs.List.{tabulate-cong}
@@ -380,19 +380,25 @@ byte-from (x ∷ s) (suc q) =
     ∙ ap (pad 8) (drop-append-add (bits 8 x) (unpack s) (8 * q))
     ∙ byte-from s q
 
+-- Two numbers of w bits side by side.
+pub side-by-side : (w x y : ℕ) (l : List Bool) → y < 2 ^ w → bits w x ≡ pad w l → bits w y ≡ pad w (drop w l) → bits (w + w) (2 ^ w * x + y) ≡ pad (w + w) l
+side-by-side w x y l h a b =
+    let e : 2 ^ w * x + y ≡ x * 2 ^ w + y = ap (λ n. n + y) (mul-comm (2 ^ w) x) in
+    bits-split w w (2 ^ w * x + y)
+    ∙ ap₂ _++_
+    (ap (bits w) (ap (λ n. n / 2 ^ w) e ∙ high x w h) ∙ a)
+    (sym (bits-mod w (2 ^ w * x + y)) ∙ ap (bits w) (ap (λ n. n % 2 ^ w) e ∙ low x w h) ∙ b)
+    ∙ sym (pad-add w w l)
+
 -- Two bytes, from byte q on.
 pub two-bytes-from : (s : List ℕ) (q x : ℕ) → x ≡ 256 * getD s q 0 + getD s (q + 1) 0 → getD s (q + 1) 0 < 256
     → bits 16 x ≡ pad 16 (drop (8 * q) (unpack s))
 two-bytes-from s q x e h =
-    let high : x / 2 ^ 8 ≡ getD s q 0 = omega arith in
-    let low : x % 2 ^ 8 ≡ getD s (q + 1) 0 = omega arith in
     let f : 8 * (q + 1) ≡ 8 * q + 8 = omega arith in
-    bits-split 8 8 x
-    ∙ ap₂ _++_
-    (ap (bits 8) high ∙ sym (byte-from s q))
-    (sym (bits-mod 8 x) ∙ ap (bits 8) low ∙ sym (byte-from s (q + 1))
-    ∙ ap (λ n. pad 8 (drop n (unpack s))) f ∙ ap (pad 8) (sym (drop-drop 8 (8 * q) (unpack s))))
-    ∙ sym (pad-add 8 8 (drop (8 * q) (unpack s)))
+    ap (bits 16) e
+    ∙ side-by-side 8 (getD s q 0) (getD s (q + 1) 0) (drop (8 * q) (unpack s)) h
+    (sym (byte-from s q))
+    (sym (byte-from s (q + 1)) ∙ ap (λ n. pad 8 (drop n (unpack s))) f ∙ ap (pad 8) (sym (drop-drop 8 (8 * q) (unpack s))))
 
 -- ---- bytes from bits
 

@@ -2,3 +2,4 @@ pub mod Payload
 pub mod Tables
 pub mod Bytes
 pub mod Marked
+pub mod Spreading

@@ -3,15 +3,11 @@ use mathlib.Core.List.{List}
 use Prim.Native.Nat.{ℕ}
 use Rattle.base.specs.Bit.{tabulate}
 use Rattle.bits.specs.Packed.{bits, number}
-use Rattle.payload.specs.Payload.{ones, spread, gather}
+use Rattle.payload.specs.Payload.{ones, gather}
 
 -- How many of four phases are marked.
 unfoldable pub onesTable : List ℕ
 onesTable = tabulate 16 (λ m. ones (bits 4 m))
-
--- The symbols of four phases, by the next four payload bits.
-unfoldable pub spreadTable : List (List ℕ)
-spreadTable = tabulate 16 (λ m. tabulate 16 (λ p. number (spread (bits 4 m) (bits 4 p))))
 
 -- The symbols at the marked ones of four phases, as a number, by the four symbols.
 unfoldable pub gatherTable : List (List ℕ)

@@ -10,20 +10,17 @@ use Rattle.bits.proofs.Packed.{bits-from}
 use Rattle.payload.proofs.next_byte.Statement.{statement}
 use Rattle.payload.proofs.next_byte.Tie as tie
 
-two-bytes-requires : tie.Need-two-bytes-requires
-two-bytes-requires c κs = search needs
+eight-bytes-requires : tie.Need-eight-bytes-requires
+eight-bytes-requires c κs = search needs
 
 sub-result : tie.Need-sub-result
 sub-result c = search needs
 
-cast-result : tie.Need-cast-result
-cast-result c = search needs
-
 shr-result : tie.Need-shr-result
 shr-result c = search needs
 
-cast-result-2 : tie.Need-cast-result-2
-cast-result-2 c = search needs
+cast-result : tie.Need-cast-result
+cast-result c = search needs
 
 returns : tie.Need-returns
 returns c =
@@ -31,9 +28,9 @@ returns c =
     let l = unpack (a .s .now) in
     let q = 8 * (a .i / 8) in
     let e : q + a .i % 8 ≡ a .i = omega arith in
-    bits-from 8 8 _ (a .i % 8) (drop q l) (omega arith) (c .two-bytes .ensures)
+    bits-from 8 56 _ (a .i % 8) (drop q l) (omega arith) (c .eight-bytes .ensures)
     ∙ ap (pad 8) (drop-drop (a .i % 8) q l ∙ ap (λ n. drop n l) e)
 
 pub next-byte-spec : {M : Type 1} → statement M
 next-byte-spec =
-    tie.close (tie.spec two-bytes-requires sub-result cast-result shr-result cast-result-2 returns)
+    tie.close (tie.spec eight-bytes-requires sub-result shr-result cast-result returns)
