@@ -1,4 +1,4 @@
--- The word of a frame by two sums over columns. Assumes nothing.
+-- The word of a frame by sums of rows. Assumes nothing.
 use mathlib.Core.Path.{_≡_, refl, sym, ap, ap₂, _∙_}
 use mathlib.Core.Bool.{Bool, true, false, _&&_}
 use mathlib.Core.List.{List}
@@ -6,14 +6,14 @@ use Prim.Native.Nat.{ℕ, _+_, _*_, _/_, _%_, _<_}
 use native.Mathlib.Omega.{arith}
 use lib.ListN.{getD, length}
 use Rattle.base.specs.Bit.{bit, parity, tabulate}
-use Rattle.base.proofs.Bool.{parity-cong, and-parity, parity-swap}
+use Rattle.base.proofs.Bool.{parity-cong, parity-and}
 use Rattle.base.proofs.List.{length-tabulate, tabulate-at, tabulate-cong}
 use Rattle.bits.specs.Packed.{bits}
 use Rattle.polar.specs.Frame.{frame}
 use Rattle.polar.proofs.Minima.{quot, rest}
-use Rattle.kernel.specs.Rows.{rowBit}
-use Rattle.kernel.proofs.Rows.{chosen-sum-at}
-use Rattle.grid.specs.Grid.{kernelOf, columnSum, columnSums, rowsBits}
+use Rattle.kernel.specs.Rows.{rowBit, rowSum}
+use Rattle.kernel.proofs.Rows.{chosen-sum-at, row-sum-at}
+use Rattle.grid.specs.Grid.{kernelOf, columnSum, columnSums, rowSums, rowsBits}
 
 -- The bits of rows.
 pub length-rows-bits : (rows : List ℕ) → length (rowsBits rows) ≡ 256
@@ -32,26 +32,30 @@ unfolding columnSums
 columns-at rows choosing j t lj lt =
     ap (λ x. bit (bits 16 x) t) (tabulate-at 16 (columnSum rows choosing) j 0 lj) ∙ chosen-sum-at rows (λ r. rowBit choosing r j) t lt
 
-middle-first : (a b c : Bool) → a && (b && c) ≡ b && a && c
-middle-first true true c = refl
-middle-first true false c = refl
-middle-first false true c = refl
-middle-first false false c = refl
+-- A bit of the sum that a row of symbols chooses.
+rows-at : (rows symbols : List ℕ) (r j : ℕ) → r < 16 → j < 16
+    → rowBit (rowSums rows symbols) r j ≡ parity 16 (λ s. rowBit symbols r s && rowBit rows s j)
+unfolding rowSums
+rows-at rows symbols r j lr lj =
+    ap (λ x. bit (bits 16 x) j) (tabulate-at 16 (λ r. rowSum rows (getD symbols r 0)) r 0 lr) ∙ row-sum-at rows (getD symbols r 0) j lj
 
--- Sums over the columns of the symbols, and over those of the inner kernel: the paper's sum.
-pub frame-sums : (inner outer symbols : List ℕ)
-    → rowsBits (columnSums (columnSums outer symbols) inner) ≡ tabulate 256 ((frame (kernelOf inner) (kernelOf outer)) .word (rowsBits symbols))
+and-three : (a b c : Bool) → (a && b) && c ≡ a && b && c
+and-three true b c = refl
+and-three false b c = refl
+
+-- Rows by the inner kernel, then columns by the outer one: the paper's sum, in the paper's order.
+pub frame-words : (inner outer symbols : List ℕ)
+    → rowsBits (columnSums outer (rowSums inner symbols)) ≡ tabulate 256 ((frame (kernelOf inner) (kernelOf outer)) .word (rowsBits symbols))
 unfolding rowsBits
-frame-sums inner outer symbols = tabulate-cong 256 (λ p lp.
+frame-words inner outer symbols = tabulate-cong 256 (λ p lp.
     let j : ℕ = p / 16 in
     let t : ℕ = p % 16 in
     let lj : j < 16 = omega arith in
     let lt : t < 16 = omega arith in
-    columns-at (columnSums outer symbols) inner j t lj lt
+    columns-at outer (rowSums inner symbols) j t lj lt
+    ∙ parity-cong 16 (λ r lr.
+    ap (λ b. b && rowBit outer r t) (rows-at inner symbols r j lr lj)
+    ∙ parity-and 16 (λ s. rowBit symbols r s && rowBit inner s j) (rowBit outer r t)
     ∙ parity-cong 16 (λ s ls.
-    ap (λ b. rowBit inner s j && b) (columns-at outer symbols s t ls lt)
-    ∙ sym (and-parity 16 (rowBit inner s j) (λ r. rowBit symbols r s && rowBit outer r t)))
-    ∙ parity-swap 16 16 (λ s r. rowBit inner s j && (rowBit symbols r s && rowBit outer r t))
-    ∙ parity-cong 16 (λ r lr. parity-cong 16 (λ s ls.
-    middle-first (rowBit inner s j) (rowBit symbols r s) (rowBit outer r t)
+    and-three (rowBit symbols r s) (rowBit inner s j) (rowBit outer r t)
     ∙ ap (λ b. b && rowBit inner s j && rowBit outer r t) (sym (rows-bits-at symbols r s lr ls)))))

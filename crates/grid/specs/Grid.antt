@@ -5,7 +5,7 @@ use Prim.Native.Nat.{ℕ, _+_, _-_, _*_, _/_, _%_, _^_}
 use lib.ListN.{getD}
 use Rattle.base.specs.Bit.{tabulate}
 use Rattle.polar.specs.Kernel.{Kernel}
-use Rattle.kernel.specs.Rows.{rowBit, chosenSum}
+use Rattle.kernel.specs.Rows.{rowBit, chosenSum, rowSum}
 
 -- The kernel of a table of rows.
 abbrev pub kernelOf : List ℕ → Kernel
@@ -18,6 +18,10 @@ columnSum rows choosing j = chosenSum rows (λ r. rowBit choosing r j)
 -- All sixteen.
 unfoldable pub columnSums : List ℕ → List ℕ → List ℕ
 columnSums rows choosing = tabulate 16 (columnSum rows choosing)
+
+-- The sum of rows that each row of the symbols chooses.
+unfoldable pub rowSums : List ℕ → List ℕ → List ℕ
+rowSums rows symbols = tabulate 16 (λ r. rowSum rows (getD symbols r 0))
 
 -- The bits of sixteen rows, one after the other.
 unfoldable pub rowsBits : List ℕ → List Bool

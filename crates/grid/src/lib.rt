@@ -6,7 +6,7 @@ ghost use lib.ListN.{length, drop};
 ghost use Rattle.base.specs.Bit.{tabulate};
 ghost use Rattle.bits.specs.Packed.{unpack, pack};
 ghost use Rattle.polar.specs.Frame.{frame};
-ghost use Rattle.grid.specs.Grid.{kernelOf, columnSum, columnSums, rowsBits};
+ghost use Rattle.grid.specs.Grid.{kernelOf, columnSum, columnSums, rowSums, rowsBits};
 
 // The sum of the rows that column j of the choosing rows chooses. The bit is read here, so that vectors have lanes of sixteen bits.
 fn column_sum(rows: [u16; 16], choosing: [u16; 16], j: usize) -> u16
@@ -38,13 +38,26 @@ fn column_sums(rows: [u16; 16], choosing: [u16; 16]) -> [u16; 16]
     out
 }
 
-// The word of a frame's symbols, both as sixteen rows: the columns of the symbols choose rows of the outer kernel,
-// and the columns of the inner kernel choose among these sums.
+// The sum of rows that each of sixteen rows of symbols chooses.
+fn row_sums(rows: [u16; 16], symbols: [u16; 16]) -> [u16; 16]
+    ensures { λ r. ⌜ r ≡ rowSums rows symbols ⌝ }
+{
+    let mut out = [0u16; 16];
+    let mut r: usize = 0;
+    while r < 16 {
+        out[r] = kernel::row_sum(rows, symbols[r]);
+        r += 1;
+    }
+    out
+}
+
+// The word of a frame's symbols, both as sixteen rows: each row of the symbols is encoded by the inner kernel, and the columns of
+// these words choose rows of the outer one.
 pub fn frame_rows(inner: [u16; 16], outer: [u16; 16], symbols: [u16; 16]) -> [u16; 16]
     ensures { λ r. ⌜ rowsBits r ≡ tabulate 256 ((frame (kernelOf inner) (kernelOf outer)) .word (rowsBits symbols)) ⌝ }
 {
-    let sums = column_sums(outer, symbols);
-    column_sums(sums, inner)
+    let words = row_sums(inner, symbols);
+    column_sums(outer, words)
 }
 
 // The row of two bytes.
