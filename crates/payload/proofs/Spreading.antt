@@ -26,28 +26,29 @@ spread-false (false ∷ m) p = ap (λ t. false ∷ t) (spread-false m p)
 spread-false (true ∷ m) [] = refl
 spread-false (true ∷ m) (b ∷ p) = ap (λ t. b ∷ t) (spread-false m p)
 
--- Doubled, the first bit is gone and a cleared one follows.
-doubled : (n x : ℕ) → bits (suc n) ((x + x) % 2 ^ suc n) ≡ bits n x ++ (false ∷ [])
-unfolding bits
-doubled n x =
-    let h : (x + x) / 2 ^ 1 ≡ x = omega arith in
-    let z : (x + x) / 2 ^ 0 % 2 ≡ 0 = omega arith in
-    bits-mod (suc n) (x + x)
-    ∙ ap (λ k. bits k (x + x)) (sym (add-one n))
-    ∙ bits-split n 1 (x + x)
-    ∙ ap₂ _++_ (ap (bits n) h) (ap (λ y. eqb y 1 ∷ []) z)
-
 -- A bit behind others.
-behind : (i u t : ℕ) → i ≤ 7 → t < 2 → bits (suc i) (u * 2 % 256 + t) ≡ bits i u ++ (odd t ∷ [])
+behind : (n x t : ℕ) → t < 2 → bits (suc n) (2 * x + t) ≡ bits n x ++ (odd t ∷ [])
 unfolding bits
-behind i u t l h =
-    let y : ℕ = u * 2 % 256 + t in
-    let a : y / 2 ^ 1 ≡ u % 2 ^ 7 = omega arith in
+behind n x t h =
+    let y : ℕ = 2 * x + t in
+    let a : y / 2 ^ 1 ≡ x = omega arith in
     let b : y / 2 ^ 0 % 2 ≡ t % 2 = omega arith in
+    ap (λ k. bits k y) (sym (add-one n)) ∙ bits-split n 1 y ∙ ap₂ _++_ (ap (bits n) a) (ap (λ z. eqb z 1 ∷ []) b)
+
+-- Doubled, a number of eight bits loses the first, and a cleared one follows.
+doubled : (x : ℕ) → bits 8 ((x + x) % 2 ^ 8) ≡ bits 7 x ++ (false ∷ [])
+doubled x =
+    let e : x + x ≡ 2 * x + 0 = omega arith in
+    bits-mod 8 (x + x) ∙ ap (bits 8) e ∙ behind 7 x 0 (omega arith)
+
+-- The symbol of one phase more.
+symbol-next : (i u t : ℕ) → i ≤ 7 → t < 2 → bits (suc i) (u * 2 % 256 + t) ≡ bits i u ++ (odd t ∷ [])
+symbol-next i u t l h =
+    let e : u * 2 % 256 + t ≡ 2 * (u % 2 ^ 7) + t = omega arith in
     let w : 7 ≡ (7 - i) + i = omega arith in
-    ap (λ k. bits k y) (sym (add-one i))
-    ∙ bits-split i 1 y
-    ∙ ap₂ _++_ (ap (bits i) a ∙ ap (λ k. bits i (u % 2 ^ k)) w ∙ bits-low i (7 - i) u) (ap (λ y. eqb y 1 ∷ []) b)
+    ap (bits (suc i)) e
+    ∙ behind i (u % 2 ^ 7) t h
+    ∙ ap (λ s. s ++ (odd t ∷ [])) (ap (λ k. bits i (u % 2 ^ k)) w ∙ bits-low i (7 - i) u)
 
 -- After i phases of a byte m: their symbols u, and the payload bits that are left.
 abbrev pub Partly : ℕ → ℕ → ℕ → ℕ → ℕ → Type 0
@@ -68,8 +69,8 @@ module _ (m p u rest i : ℕ) (l : i ≤ 7) (h : Partly m p u rest i) where
       let t : Bool = odd (rest / 128) in
       let ms : List Bool = drop (i + 1) (bits 8 m) in
       ap₂ (λ k s. k ++ s)
-      (ap₂ bits (add-one i) ev ∙ behind i u (rest / 128) l (omega arith))
-      (ap (λ x. spread ms (bits 8 x)) er ∙ ap (spread ms) (doubled 7 rest) ∙ spread-false ms (bits 7 rest))
+      (ap₂ bits (add-one i) ev ∙ symbol-next i u (rest / 128) l (omega arith))
+      (ap (λ x. spread ms (bits 8 x)) er ∙ ap (spread ms) (doubled rest) ∙ spread-false ms (bits 7 rest))
       ∙ append-assoc (bits i u) (t ∷ []) (spread ms (bits 7 rest))
       ∙ ap (λ k. bits i u ++ spread k (bits 8 rest)) (sym (phase ∙ ap (λ b. b ∷ ms) e))
       ∙ h
@@ -80,7 +81,7 @@ module _ (m p u rest i : ℕ) (l : i ≤ 7) (h : Partly m p u rest i) where
   partly-frozen e v r ev er =
       let ms : List Bool = drop (i + 1) (bits 8 m) in
       let z : v ≡ u * 2 % 256 + 0 = omega arith in
-      ap₂ (λ k s. k ++ s) (ap₂ bits (add-one i) z ∙ behind i u 0 l (omega arith)) (ap (λ x. spread ms (bits 8 x)) er)
+      ap₂ (λ k s. k ++ s) (ap₂ bits (add-one i) z ∙ symbol-next i u 0 l (omega arith)) (ap (λ x. spread ms (bits 8 x)) er)
       ∙ append-assoc (bits i u) (false ∷ []) (spread ms (bits 8 rest))
       ∙ ap (λ k. bits i u ++ spread k (bits 8 rest)) (sym (phase ∙ ap (λ b. b ∷ ms) e))
       ∙ h

@@ -144,7 +144,7 @@ fn next_four(mask: &[u8], payload: &[u8], bytes: &mut [u8], i: usize, j: usize) 
     8 * q + d
 }
 
-// Puts them in place of the counts from `start` on, one by one.
+// Puts the next eight payload bits in place of each count from `start` on, one by one.
 fn next_rest(mask: &[u8], payload: &[u8], bytes: &mut [u8], start: usize, used: usize)
     requires { ⌜ (start ≤ length (now mask)) × (length (now mask) ≤ 4096) ⌝ }
     requires { ⌜ (used ≡ marksBefore (now mask) start) × (now bytes ≡ nextPart (now mask) (unpack (now payload)) start) ⌝ }
@@ -160,7 +160,7 @@ fn next_rest(mask: &[u8], payload: &[u8], bytes: &mut [u8], start: usize, used: 
     }
 }
 
-// Puts the next eight payload bits in place of each count.
+// Puts the next eight payload bits in place of each count, by fours as far as they go.
 fn next_bytes(mask: &[u8], payload: &[u8], bytes: &mut [u8])
     requires { ⌜ (length (now mask) ≤ 4096) × (now bytes ≡ markCounts (now mask)) ⌝ }
     ensures { λ _. ⌜ now (bytes .exit) ≡ nextBytes (now (mask .entry)) (unpack (now (payload .entry))) ⌝ }
