@@ -14,7 +14,7 @@ use Rattle.answer.proofs.Settle.{settle-none}
 use Rattle.polar.specs.Code.{channel}
 use Rattle.polar.specs.Distance.{partialDistance}
 use Rattle.polar.proofs.Distance.{scores-distance, scores-zero}
-use Rattle.folds.specs.Range.{firstOutside}
+use Rattle.folds.specs.Range.{valueLimit, firstOutside}
 use Rattle.kernel.specs.Kernels.{kernelCode}
 use Rattle.kernel.specs.Jobs.{isKernel}
 use Rattle.kernel.proofs.Checks.{kernel-below}
@@ -27,12 +27,12 @@ module _ (k : ℕ) (out : List ℤ) (lk : k < 3) (room : 16 ≤ length out) wher
   known = ap not (sym (kernel-below k) ∙ lt-ltb k 3 lk)
 
   zeros-accepted : isAccepted (settle (kernelFollowChecks k (replicate 16 (pos 0)) (length out)) done) ≡ true
-  unfolding kernelFollowChecks firstOutside
+  unfolding kernelFollowChecks valueLimit firstOutside
   zeros-accepted =
       ap isAccepted (settle-none (kernelFollowChecks k (replicate 16 (pos 0)) (length out)) done (known, (refl, (le-ltb (length out) 16 room, (refl, tt)))))
 
   ones-accepted : isAccepted (settle (kernelFollowChecks k (replicate 16 (pos 1)) (length out)) done) ≡ true
-  unfolding kernelFollowChecks firstOutside
+  unfolding kernelFollowChecks valueLimit firstOutside
   ones-accepted =
       ap isAccepted (settle-none (kernelFollowChecks k (replicate 16 (pos 1)) (length out)) done (known, (refl, (le-ltb (length out) 16 room, (refl, tt)))))
 

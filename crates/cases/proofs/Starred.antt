@@ -18,7 +18,7 @@ use Rattle.polar.specs.Follow.{scores}
 use Rattle.polar.specs.Kernel.{arikan}
 use Rattle.polar.specs.Relation.{unit, sumOf, symbols}
 use Rattle.polar.specs.Fold.{folded, blocks}
-use Rattle.folds.specs.Range.{firstOutside}
+use Rattle.folds.specs.Range.{valueLimit, firstOutside}
 use Rattle.folds.specs.Rows.{leastTo}
 use Rattle.kernel.specs.Kernels.{kernelCode}
 use Rattle.kernel.specs.Rows.{chosenSum, rowSum, table}
@@ -167,5 +167,5 @@ all-shown (c ∷ cs) t =
     (shown c (h .0), all-shown cs (h .1))
 
 pub starred-hold : AllHold starred
-unfolding tests test isRefusal isKernel chosenSum bits number tabulate parity sameScore sameList kernelFollowChecks firstOutside scoresBy leastBy pathBy leastTo windows solutions symbols sumOf folded blocks arikan every informationChecks informationBits markedPhases among order unpack marksChecks firstNotFinite notFinite lowest valueAt nearestLimited mul round rounded fits
+unfolding tests test isRefusal isKernel chosenSum bits number tabulate parity sameScore sameList kernelFollowChecks valueLimit firstOutside scoresBy leastBy pathBy leastTo windows solutions symbols sumOf folded blocks arikan every informationChecks informationBits markedPhases among order unpack marksChecks firstNotFinite notFinite lowest valueAt nearestLimited mul round rounded fits
 starred-hold = all-shown starred refl

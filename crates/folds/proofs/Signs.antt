@@ -3,6 +3,7 @@ use mathlib.Core.Path.{_≡_, refl, ap, _∙_}
 use mathlib.Core.Bool.{Bool, true, false, true≢false}
 use mathlib.Core.List.{List}
 use Prim.Native.Nat.{ℕ, zero, suc, _^_, _≤_, _<_}
+use native.Mathlib.Nat.{le-trans}
 use native.Mathlib.Omega.{arith}
 use borrow.Author.Tests.{ltb-true}
 use lib.Dec.{T}
@@ -13,6 +14,7 @@ use mir.Facts.{toZ-ofZ, sfits-widen}
 use mir.Syntax.{w16, w32}
 use mir.Val.{Fits, SFits, toZ, ofZ}
 use Rattle.polar.specs.Code.{pay, channel}
+use Rattle.polar.proofs.Values.{pay-size}
 use Rattle.folds.specs.Range.{firstOutside}
 use Rattle.folds.proofs.Range.{outside-none}
 
@@ -95,12 +97,6 @@ module _ (y : ℤ) (h : mag y < 2 ^ 15) where
   pub pos-cost : ltZ (wide y) (pos 0) ≡ false → (natAbs (wide y) ≡ pay y true) × (0 ≡ pay y false)
   pos-cost t = rw wide-is (pos-pays y (rw wide-is at t))
 
-pay-le : (y : ℤ) (n : ℕ) → natAbs y ≤ n → (b : Bool) → pay y b ≤ n
-pay-le (pos y) n h false = omega arith
-pay-le (pos y) n h true = h
-pay-le (negsuc y) n h false = h
-pay-le (negsuc y) n h true = omega arith
-
 -- Values none of which is outside the range pay at most its limit.
 pub channel-le : (limit : ℕ) (ys : List ℤ) → firstOutside limit ys ≡ length ys → (j : ℕ) (b : Bool) → j < length ys → channel ys j b ≤ limit
-channel-le limit ys e j b l = pay-le (getD ys j (pos 0)) limit (outside-none limit ys e j l) b
+channel-le limit ys e j b l = le-trans (pay-size (getD ys j (pos 0)) b) (outside-none limit ys e j l)

@@ -8,7 +8,7 @@ ghost use Rattle.base.specs.Bit;
 ghost use Rattle.bits.specs.Packed.{bits};
 ghost use Rattle.polar.specs.Code.{channel};
 ghost use Rattle.polar.specs.Fold.{freeFold, knownFold};
-ghost use Rattle.folds.specs.Range.{firstOutside};
+ghost use Rattle.folds.specs.Range.{valueLimit, firstOutside};
 ghost use Rattle.folds.specs.Rows.{costsOf, Within, IsGreatest, select, Pays};
 
 // The size of a value.
@@ -36,7 +36,7 @@ pub fn first_outside(values: &[i16], limit: u32) -> usize
 // What each of sixteen channel values pays for bit 0 and for bit 1.
 pub fn cost_rows(values: &[i16]) -> [[u32; 16]; 2]
     requires { ⌜ length (now values) ≡ 16 ⌝ }
-    requires { ⌜ firstOutside 2047 (now values) ≡ 16 ⌝ }
+    requires { ⌜ firstOutside valueLimit (now values) ≡ 16 ⌝ }
     ensures costs { λ r. ⌜ ((j : ℕ) (b : Bool) → j < 16 → costsOf r j b ≡ channel (now (values .entry)) j b) ⌝ }
     ensures within { λ r. ⌜ ((n : ℕ) → firstOutside n (now (values .entry)) ≡ 16 → Within n r) ⌝ }
 {
@@ -148,7 +148,7 @@ fn place(rows: &[[u32; 16]; 2], i: usize) -> PlaceCosts
 
 // Place i of the second half, where the bits of the first half's word stand in word.
 fn known_at(rows: &[[u32; 16]; 2], word: u32, i: usize) -> PlaceCosts
-    requires { ⌜ (i < 8) × Within 65536 (now rows) ⌝ }
+    requires { ⌜ (i < 8) × Within valueLimit (now rows) ⌝ }
     ensures { λ r. ⌜ Pays (knownFold 8 (Bit.bit (bits 16 word)) (costsOf (now (rows .entry)))) i (r .zero) (r .one) ⌝ }
 {
     known(bits::word_bit(word, i), place(rows, i), place(rows, 8 + i))
@@ -156,7 +156,7 @@ fn known_at(rows: &[[u32; 16]; 2], word: u32, i: usize) -> PlaceCosts
 
 // Place i of the first half, the second half being free.
 fn free_at(rows: &[[u32; 16]; 2], i: usize) -> PlaceCosts
-    requires { ⌜ (i < 8) × Within 65536 (now rows) ⌝ }
+    requires { ⌜ (i < 8) × Within valueLimit (now rows) ⌝ }
     ensures { λ r. ⌜ Pays (freeFold 8 (costsOf (now (rows .entry)))) i (r .zero) (r .one) ⌝ }
 {
     free(place(rows, i), place(rows, 8 + i))
@@ -164,7 +164,7 @@ fn free_at(rows: &[[u32; 16]; 2], i: usize) -> PlaceCosts
 
 // Two folds of sixteen places, both with the second half free.
 pub fn free_free(rows: &[[u32; 16]; 2]) -> [[u32; 4]; 2]
-    requires { ⌜ Within 65536 (now rows) ⌝ }
+    requires { ⌜ Within valueLimit (now rows) ⌝ }
     ensures { λ r. ⌜ ((j : ℕ) (b : Bool) → j < 4 → costsOf r j b ≡ freeFold 4 (freeFold 8 (costsOf (now (rows .entry)))) j b) ⌝ }
 {
     let mut out = [[0u32; 4]; 2];
@@ -184,7 +184,7 @@ pub fn free_free(rows: &[[u32; 16]; 2]) -> [[u32; 4]; 2]
 
 // The same with the first half known the second time.
 pub fn free_known(rows: &[[u32; 16]; 2], word: u32) -> [[u32; 4]; 2]
-    requires { ⌜ Within 65536 (now rows) ⌝ }
+    requires { ⌜ Within valueLimit (now rows) ⌝ }
     ensures { λ r. ⌜ ((j : ℕ) (b : Bool) → j < 4 → costsOf r j b ≡ knownFold 4 (Bit.bit (bits 16 word)) (freeFold 8 (costsOf (now (rows .entry)))) j b) ⌝ }
 {
     let mut out = [[0u32; 4]; 2];
@@ -204,7 +204,7 @@ pub fn free_known(rows: &[[u32; 16]; 2], word: u32) -> [[u32; 4]; 2]
 
 // The same with the first half known the first time.
 pub fn known_free(rows: &[[u32; 16]; 2], word: u32) -> [[u32; 4]; 2]
-    requires { ⌜ Within 65536 (now rows) ⌝ }
+    requires { ⌜ Within valueLimit (now rows) ⌝ }
     ensures { λ r. ⌜ ((j : ℕ) (b : Bool) → j < 4 → costsOf r j b ≡ freeFold 4 (knownFold 8 (Bit.bit (bits 16 word)) (costsOf (now (rows .entry)))) j b) ⌝ }
 {
     let mut out = [[0u32; 4]; 2];
@@ -224,7 +224,7 @@ pub fn known_free(rows: &[[u32; 16]; 2], word: u32) -> [[u32; 4]; 2]
 
 // The same with the first half known both times.
 pub fn known_known(rows: &[[u32; 16]; 2], word: u32) -> [[u32; 4]; 2]
-    requires { ⌜ Within 65536 (now rows) ⌝ }
+    requires { ⌜ Within valueLimit (now rows) ⌝ }
     ensures { λ r. ⌜ ((j : ℕ) (b : Bool) → j < 4 → costsOf r j b ≡ knownFold 4 (λ i. Bit.bit (bits 16 word) (8 + i)) (knownFold 8 (Bit.bit (bits 16 word)) (costsOf (now (rows .entry)))) j b) ⌝ }
 {
     let mut out = [[0u32; 4]; 2];

@@ -17,7 +17,7 @@ use Rattle.answer.proofs.Settle.{None, none-of, settle-none, after-refused}
 use Rattle.polar.specs.Code.{Costs, channel}
 use Rattle.polar.specs.Follow.{scores}
 use Rattle.polar.proofs.Follow.{scores-cong, length-scores}
-use Rattle.folds.specs.Range.{firstOutside}
+use Rattle.folds.specs.Range.{valueLimit, firstOutside}
 use Rattle.folds.proofs.Range.{outside-le}
 use Rattle.kernel.specs.Kernels.{kernelCode}
 use Rattle.kernel.proofs.Checks.{kernel-lt}
@@ -30,7 +30,7 @@ pub record Accepted (k : ℕ) (values : List ℤ) (room : ℕ) : Type 0 where
   pub known : k < 3
   pub count : length values ≡ 16
   pub room-enough : 16 ≤ room
-  pub inside : firstOutside 2047 values ≡ 16
+  pub inside : firstOutside valueLimit values ≡ 16
 
 passes : (k : ℕ) (values : List ℤ) (room : ℕ) → None (kernelFollowChecks k values room) → Accepted k values room
 unfolding kernelFollowChecks
@@ -38,12 +38,12 @@ passes k values room n =
     let wrong : not (eqb (length values) 16) ≡ false = search (n .1 .0, n .1 .1 .0) in
     let short : ltb room 16 ≡ false = search (n .1 .0, n .1 .1 .0) in
     let e = eqb-true (length values) 16 (not-false _ wrong) in
-    let l = ltb-false (firstOutside 2047 values) (length values) (n .1 .1 .1 .0) in
+    let l = ltb-false (firstOutside valueLimit values) (length values) (n .1 .1 .1 .0) in
     record {
       known = kernel-lt k (not-false _ (n .0));
       count = e;
       room-enough = ltb-false room 16 short;
-      inside = omega (arith, outside-le 2047 values);
+      inside = omega (arith, outside-le valueLimit values);
     }
 
 module _ (k : ℕ) (values : List ℤ) (room : ℕ) (a : isAccepted (settle (kernelFollowChecks k values room) done) ≡ true) where

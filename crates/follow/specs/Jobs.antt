@@ -11,16 +11,16 @@ use Rattle.polar.specs.Code.{channel}
 use Rattle.polar.specs.Follow.{scores}
 use Rattle.kernel.specs.Kernels.{kernelCode}
 use Rattle.kernel.specs.Jobs.{isKernel}
-use Rattle.folds.specs.Range.{firstOutside}
+use Rattle.folds.specs.Range.{valueLimit, firstOutside}
 
 -- The checks of kernel follow, in checking order: the kernel number, the length of the values, the room for the scores,
--- and a value outside -2047 to 2047, the lowest such index being the place.
+-- and a value beyond the limit in size, the lowest such index being the place.
 unfoldable pub kernelFollowChecks : ℕ → List ℤ → ℕ → List Check
 kernelFollowChecks k values room =
     condition 1 (not (isKernel k))
     ∷ condition 2 (not (eqb (length values) 16))
     ∷ condition 5 (ltb room 16)
-    ∷ conditionAt 6 (firstOutside 2047 values) (ltb (firstOutside 2047 values) (length values))
+    ∷ conditionAt 6 (firstOutside valueLimit values) (ltb (firstOutside valueLimit values) (length values))
     ∷ []
 
 -- Kernel follow: kernel number, sixteen values and sixteen symbols to sixteen scores. All of them are those of the kernel's code

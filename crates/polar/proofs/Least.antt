@@ -84,12 +84,16 @@ pub least-cong : (C : Code) {m m′ : Costs} → ((i : ℕ) → i < C .places �
 unfolding least total
 least-cong C h p = minimum-cong _ (λ t _. sum-cong (C .places) (λ i l. h i l (C .word (p ++ t) i)))
 
--- The least is at most c for each place, where no cost exceeds c.
-pub least-bound : (C : Code) (m : Costs) (c : ℕ) → ((i : ℕ) (b : Bool) → m i b ≤ c) → (p : List Bool) → least C m p ≤ C .places * c
+-- The least is at most the sum of what the places pay at most,
+pub least-sum : (C : Code) (m : Costs) (most : ℕ → ℕ) → ((i : ℕ) (b : Bool) → m i b ≤ most i) → (p : List Bool) → least C m p ≤ sum (C .places) most
 unfolding least total
-least-bound C m c h p =
+least-sum C m most h p =
     let a = minimum-at (C .size - length p) (λ t. total C m (p ++ t)) in
-    rw (← (a .2), ← (sum-const (C .places) c)) (sum-le (C .places) (λ i. h i (C .word (p ++ a .0) i)))
+    rw (← (a .2)) (sum-le (C .places) (λ i. h i (C .word (p ++ a .0) i)))
+
+-- so at most c for each place, where no cost exceeds c.
+pub least-bound : (C : Code) (m : Costs) (c : ℕ) → ((i : ℕ) (b : Bool) → m i b ≤ c) → (p : List Bool) → least C m p ≤ C .places * c
+least-bound C m c h p = rw (← (sum-const (C .places) c)) (least-sum C m (λ _. c) h p)
 
 -- ---- the best score in the paper's words
 

@@ -6,12 +6,12 @@ use Prim.Native.Nat.{ℕ, _+_, _*_, _/_, _≤_, _<_, min}
 use native.Mathlib.Decide.{decLt}
 use native.Mathlib.Omega.{arith}
 use borrow.Author.Tests.{lt-ltb, le-ltb}
-use lib.ListN.{length, take, drop, length-append}
-use lib.IntN.{ℤ, pos, negsuc, subℕ}
-use Rattle.polar.specs.Code.{Code, Costs, pay, sum, total, least, score, Onto}
+use lib.ListN.{length, getD, take, drop, length-append}
+use lib.IntN.{ℤ, pos, negsuc, natAbs, subℕ}
+use Rattle.polar.specs.Code.{Code, Costs, pay, channel, sum, total, least, score, Onto}
 use Rattle.polar.specs.Stages.{rows, column, staged, block, pairs, soft}
-use Rattle.polar.proofs.Minima.{minimum-cong, minimum-shift, sum-cong, sum-add}
-use Rattle.polar.proofs.Least.{score-least, least-free, least-step, least-bound}
+use Rattle.polar.proofs.Minima.{minimum-cong, minimum-shift, sum-cong, sum-add, sum-const}
+use Rattle.polar.proofs.Least.{score-least, least-free, least-step, least-sum}
 use Rattle.polar.proofs.Layer.{Parted, parted, layer}
 
 -- The score after whole rows u and a part p of the next is the inner code's, over the pairs.
@@ -107,8 +107,31 @@ layer-scores-next A B onto m q l = go (length q / A .size) (parted (A .size) (B 
         ∙ layer-scores A B onto m r (take (r * A .size) q) (drop (r * A .size) q) (c .row-count) (c .in-frame) (c .in-row)
         ∙ ap (λ U. score A (soft A B m U) (drop (r * A .size) q)) (c .same-rows)
 
--- A score is at most c for each place, where no cost exceeds c.
-pub score-bound : (C : Code) (m : Costs) (c : ℕ) → ((i : ℕ) (b : Bool) → m i b ≤ c) → (p : List Bool) (b : Bool) → pay (score C m p) b ≤ C .places * c
-score-bound C m c h p b =
+-- ---- how far scores go
+
+-- A value pays at most its size,
+pub pay-size : (y : ℤ) (b : Bool) → pay y b ≤ natAbs y
+pay-size (pos y) false = omega arith
+pay-size (pos y) true = omega arith
+pay-size (negsuc y) false = omega arith
+pay-size (negsuc y) true = omega arith
+
+-- and its size is at most a bound of what it pays.
+pub size-pays : (y : ℤ) (n : ℕ) → ((b : Bool) → pay y b ≤ n) → natAbs y ≤ n
+size-pays (pos y) n h = h true
+size-pays (negsuc y) n h = h false
+
+-- A score is at most the sum of what the places pay at most, in size,
+pub score-sum : (C : Code) (m : Costs) (most : ℕ → ℕ) → ((i : ℕ) (b : Bool) → m i b ≤ most i) → (p : List Bool) → natAbs (score C m p) ≤ sum (C .places) most
+score-sum C m most h p =
+    size-pays (score C m p) _ (λ b.
     let q : Bool → ℕ = λ d. least C m (p ++ (d ∷ [])) in
-    rw score-least (omega (arith, parts q b, least-bound C m c h (p ++ (b ∷ []))))
+    rw score-least (omega (arith, parts q b, least-sum C m most h (p ++ (b ∷ [])))))
+
+-- so at most c for each place, where no cost exceeds c.
+pub score-bound : (C : Code) (m : Costs) (c : ℕ) → ((i : ℕ) (b : Bool) → m i b ≤ c) → (p : List Bool) → natAbs (score C m p) ≤ C .places * c
+score-bound C m c h p = rw (← (sum-const (C .places) c)) (score-sum C m (λ _. c) h p)
+
+-- The score of any code over any channel values is in size at most the sum of their sizes.
+pub score-size : (C : Code) (ys : List ℤ) (p : List Bool) → natAbs (score C (channel ys) p) ≤ sum (C .places) (λ i. natAbs (getD ys i (pos 0)))
+score-size C ys p = score-sum C (channel ys) (λ i. natAbs (getD ys i (pos 0))) (λ i b. pay-size (getD ys i (pos 0)) b) p

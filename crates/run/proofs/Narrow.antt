@@ -26,20 +26,20 @@ sign-is (pos zero) = refl
 sign-is (pos (suc n)) = le-ltb (suc n) 0 (omega arith)
 sign-is (negsuc n) = refl
 
-neg-small : (y : ℤ) → natAbs y ≤ 32752 → mag (negℤ y) < 2 ^ 31
+neg-small : (y : ℤ) → natAbs y ≤ 16777216 → mag (negℤ y) < 2 ^ 31
 neg-small (pos zero) h = omega arith
 neg-small (pos (suc n)) h = omega arith
 neg-small (negsuc n) h = omega arith
 
-neg-number : (y : ℤ) → ltZ y (pos 0) ≡ true → natAbs y ≤ 32752 → T (nonNeg (negℤ y)) × Fits w32 (natAbs (negℤ y)) × (natAbs (negℤ y) ≡ pay y false) × (0 ≡ pay y true)
+neg-number : (y : ℤ) → ltZ y (pos 0) ≡ true → natAbs y ≤ 16777216 → T (nonNeg (negℤ y)) × Fits w32 (natAbs (negℤ y)) × (natAbs (negℤ y) ≡ pay y false) × (0 ≡ pay y true)
 neg-number (pos n) t h = absurd (omega (arith, ltb-true n 0 t))
 neg-number (negsuc n) t h = (tt, record { fits = omega arith }, refl, refl)
 
-pos-number : (y : ℤ) → ltZ y (pos 0) ≡ false → natAbs y ≤ 32752 → T (nonNeg y) × Fits w32 (natAbs y) × (natAbs y ≡ pay y true) × (0 ≡ pay y false)
+pos-number : (y : ℤ) → ltZ y (pos 0) ≡ false → natAbs y ≤ 16777216 → T (nonNeg y) × Fits w32 (natAbs y) × (natAbs y ≡ pay y true) × (0 ≡ pay y false)
 pos-number (pos n) t h = (tt, record { fits = omega arith }, refl, refl)
 pos-number (negsuc n) t h = absurd (true≢false t)
 
-module _ (y : ℤ) (f : SFits w32 y) (h : natAbs y ≤ 32752) where
+module _ (y : ℤ) (f : SFits w32 y) (h : natAbs y ≤ 16777216) where
   -- The score as it is read.
   abbrev pub held : ℤ
   held = toZ w32 (ofZ w32 y)

@@ -2,11 +2,11 @@
 use mathlib.Core.Path.{_≡_, refl, sym, ap, ap₂, _∙_, subst⁻¹}
 use mathlib.Core.Bool.{Bool, true, false}
 use mathlib.Core.List.{List, [], _∷_, _++_}
-use Prim.Native.Nat.{ℕ, suc, _+_, _≤_, _<_}
+use Prim.Native.Nat.{ℕ, suc, _+_, _*_, _≤_, _<_}
 use native.Mathlib.Numerals.{add-one}
 use native.Mathlib.Decide.{decLt}
 use native.Mathlib.Omega.{arith}
-use lib.IntN.{ℤ, pos, negsuc, natAbs, negℤ, _-ℤ_}
+use lib.IntN.{ℤ, pos, negℤ, _-ℤ_}
 use lib.ListN.{length, getD, take, set, length-set}
 use lib.Seq.{take-suc, length-take-le, take-set-le, getD-set-same, getD-set-other, ext-getD}
 use Rattle.base.specs.Bit.{bit}
@@ -18,6 +18,7 @@ use Rattle.polar.specs.Follow.{scores}
 use Rattle.polar.proofs.Least.{least-bound, least-cong}
 use Rattle.polar.proofs.Follow.{scores-at, length-scores}
 use Rattle.polar.proofs.Values.{penalty-next}
+use Rattle.folds.specs.Range.{valueLimit}
 use Rattle.folds.specs.Rows.{rowOf}
 use Rattle.kernel.specs.Kernels.{kernelCode}
 use Rattle.windows.specs.Paths.{Kept, Held}
@@ -109,8 +110,8 @@ module _ (k : ℕ) (m : Costs) (free given : ℕ → Bool) (start : ℕ) where
     phase-turn z ez x ex = rw (ez, ex) phase-next
 
     -- No sum of payments exceeds what all words pay at most.
-    pub next-bound : ((j : ℕ) (b : Bool) → m j b ≤ 2047) → penalty + pay d own ≤ start + 32752
-    next-bound most = omega (arith, g .penalty-so, next-least, least-bound (kernelCode k) m 2047 most (take (suc s) q))
+    pub next-bound : ((j : ℕ) (b : Bool) → m j b ≤ valueLimit) → penalty + pay d own ≤ start + 16 * valueLimit
+    next-bound most = omega (arith, g .penalty-so, next-least, least-bound (kernelCode k) m valueLimit most (take (suc s) q))
 
   -- Before the first phase.
   pub no-phase : least (kernelCode k) m [] ≡ 0 → (p : List Bool) → length p ≡ 16 → ((i : ℕ) → bit p i ≡ false) → (newScores : List ℤ) (newPenalties : List ℕ) (rows : List (List ℤ)) (own : Bool)
@@ -132,11 +133,6 @@ module _ (k : ℕ) (m : Costs) (free given : ℕ → Bool) (start : ℕ) where
 pub score-cong : (C : Code) {m m′ : Costs} → ((i : ℕ) → i < C .places → (b : Bool) → m i b ≡ m′ i b) → (p : List Bool) → score C m p ≡ score C m′ p
 unfolding score
 score-cong C h p = ap₂ (λ x y. negℤ (pos x) -ℤ negℤ (pos y)) (least-cong C h (p ++ (false ∷ []))) (least-cong C h (p ++ (true ∷ [])))
-
--- A score is no larger than what it pays at most.
-pub size-le : (y : ℤ) (n : ℕ) → ((b : Bool) → pay y b ≤ n) → natAbs y ≤ n
-size-le (pos y) n h = h true
-size-le (negsuc y) n h = h false
 
 -- After the last phase, over the costs of channel values.
 pub run-of : (k : ℕ) (values : List ℤ) (m : Costs) → ((j : ℕ) (b : Bool) → j < 16 → m j b ≡ channel values j b) → (free given start symbols : ℕ)

@@ -8,7 +8,7 @@ ghost use lib.Seq.{paste};
 ghost use Rattle.base.specs.Bit;
 ghost use Rattle.bits.specs.Packed.{bits};
 ghost use Rattle.polar.specs.Code.{pay};
-ghost use Rattle.folds.specs.Range.{firstOutside};
+ghost use Rattle.folds.specs.Range.{valueLimit, firstOutside};
 ghost use Rattle.windows.specs.Tables.{shapeTable, pathTable};
 ghost use Rattle.run.specs.Run.{withBit, symbolBy, KernelRun};
 
@@ -22,7 +22,7 @@ pub fn with_bit(x: u16, i: usize, b: bool) -> u16
 
 // What a score pays for a symbol.
 fn paid(score: i32, symbol: bool) -> u32
-    requires { ⌜ natAbs score ≤ 32752 ⌝ }
+    requires { ⌜ natAbs score ≤ 16777216 ⌝ }
     ensures { λ r. ⌜ r ≡ pay score symbol ⌝ }
 {
     if score < 0 {
@@ -64,7 +64,7 @@ pub fn kernel_run(
 ) -> Run
     requires { ⌜ (kernel < 3) × (start ≤ 32512) ⌝ }
     requires { ⌜ (now shapes ≡ getD shapeTable kernel []) × (now tables ≡ getD pathTable kernel []) ⌝ }
-    requires { ⌜ (length (now values) ≡ 16) × (firstOutside 2047 (now values) ≡ 16) ⌝ }
+    requires { ⌜ (length (now values) ≡ 16) × (firstOutside valueLimit (now values) ≡ 16) ⌝ }
     ensures { λ r. ⌜ KernelRun kernel (now (values .entry)) free given start (r .symbols) (r .scores) (r .penalties) ⌝ }
 {
     let costs = folds::cost_rows(values);

@@ -9,6 +9,7 @@ ghost use lib.IntN.{pos, negℤ, natAbs};
 ghost use Rattle.base.specs.Bit;
 ghost use Rattle.bits.specs.Packed.{bits};
 ghost use Rattle.polar.specs.Fold.{level};
+ghost use Rattle.folds.specs.Range.{valueLimit};
 ghost use Rattle.folds.specs.Rows.{rowOf, cell, costsOf, Within, Pays};
 ghost use Rattle.windows.specs.Tables.{shapeTable, pathTable, pathRows};
 ghost use Rattle.windows.specs.Paths.{Kept, Held, Choice, pathWordOf, FourOf, lastLeast, pathLeast, IsDifference};
@@ -58,7 +59,7 @@ fn path_word(
 // The first two folds of a path, by whether the first half is known at the one and at the other. The compiler makes vectors of
 // all four as long as no test has two of them as its arms that begin alike.
 fn two_folds(costs: &[[u32; 16]; 2], high: usize, word: u32) -> [[u32; 4]; 2]
-    requires { ⌜ (high < 16) × Within 65536 (now costs) ⌝ }
+    requires { ⌜ (high < 16) × Within valueLimit (now costs) ⌝ }
     ensures { λ r. ⌜ FourOf (now (costs .entry)) high r word ⌝ }
 {
     if high < 4 {
@@ -99,7 +100,7 @@ fn place(four: &[[u32; 4]; 2], i: usize) -> PlaceCosts
 
 // The least totals of a path where its last v is 0 and where it is 1, by the last two folds.
 fn last_two(four: &[[u32; 4]; 2], high: usize, word: u32) -> PlaceCosts
-    requires { ⌜ (high < 16) × ((j : ℕ) (b : Bool) → j < 4 → costsOf (now four) j b ≤ 262144) ⌝ }
+    requires { ⌜ (high < 16) × ((j : ℕ) (b : Bool) → j < 4 → costsOf (now four) j b ≤ 4 * valueLimit) ⌝ }
     ensures { λ r. ⌜ Pays (level 1 (high % 2) (λ i. Bit.bit (bits 16 word) (high / 2 * 2 + i)) (level 2 (high % 4) (λ i. Bit.bit (bits 16 word) (high / 4 * 4 + i)) (costsOf (now (four .entry))))) 0 (r .zero) (r .one) ⌝ }
 {
     let half_known = 2 <= high % 4;
@@ -121,7 +122,7 @@ fn last_two(four: &[[u32; 4]; 2], high: usize, word: u32) -> PlaceCosts
 
 // The best scores of a path, by what its first two folds left.
 fn best_of(four: &[[u32; 4]; 2], high: usize, word: u32) -> Best
-    requires { ⌜ (high < 16) × ((j : ℕ) (b : Bool) → j < 4 → costsOf (now four) j b ≤ 262144) ⌝ }
+    requires { ⌜ (high < 16) × ((j : ℕ) (b : Bool) → j < 4 → costsOf (now four) j b ≤ 4 * valueLimit) ⌝ }
     ensures { λ r. ⌜ (r .zero ≡ negℤ (pos (lastLeast (now (four .entry)) high word false))) × (r .one ≡ negℤ (pos (lastLeast (now (four .entry)) high word true))) ⌝ }
 {
     let last = last_two(four, high, word);
@@ -146,7 +147,7 @@ fn one_path(
     costs: &[[u32; 16]; 2],
 ) -> [[i32; 16]; 2]
     requires { ⌜ (phase ≡ high) × (high < 16) ⌝ }
-    requires { ⌜ Within 65536 (now costs) ⌝ }
+    requires { ⌜ Within valueLimit (now costs) ⌝ }
     ensures { λ r. ⌜ ((w : ℕ) (b : Bool) → w < 2 ^ (high - phase) → cell (pos 0) r w b ≡ negℤ (pos (pathLeast (now (costs .entry)) high (pathWordOf (now (table .entry)) symbols phase high false w) b))) ⌝ }
 {
     let word = path_word(table, symbols, phase, false, high - phase, high);
@@ -169,7 +170,7 @@ fn fresh_rows(
     costs: &[[u32; 16]; 2],
 ) -> [[i32; 16]; 2]
     requires { ⌜ (phase ≤ high) × (high < 16) × (high - phase ≤ 4) ⌝ }
-    requires { ⌜ Within 65536 (now costs) ⌝ }
+    requires { ⌜ Within valueLimit (now costs) ⌝ }
     ensures { λ r. ⌜ ((w : ℕ) (b : Bool) → w < 2 ^ (high - phase) → cell (pos 0) r w b ≡ negℤ (pos (pathLeast (now (costs .entry)) high (pathWordOf (now (table .entry)) symbols phase high false w) b))) ⌝ }
 {
     let paths: usize = 1 << (high - phase);
@@ -230,7 +231,7 @@ pub fn step(
 ) -> [[i32; 16]; 2]
     requires { ⌜ (kernel < 3) × (phase < 16) ⌝ }
     requires { ⌜ (shape ≡ getD (getD shapeTable kernel []) phase []) × (now table ≡ pathRows kernel phase) ⌝ }
-    requires { ⌜ Within 65536 (now costs) ⌝ }
+    requires { ⌜ Within valueLimit (now costs) ⌝ }
     requires { ⌜ (0 < phase → Kept kernel (costsOf (now costs)) (take phase (bits 16 symbols)) (rowOf rows chosen)) ⌝ }
     ensures { λ r. ⌜ Held kernel (costsOf (now (costs .entry))) (take phase (bits 16 symbols)) r ⌝ }
 {

@@ -2,7 +2,7 @@
 use mathlib.Core.Path.{_≡_, refl, ap}
 use mathlib.Core.Bool.{Bool, true, false}
 use mathlib.Core.List.{List, []}
-use Prim.Native.Nat.{ℕ, zero, suc, _-_, _^_, _≤_, _<_}
+use Prim.Native.Nat.{ℕ, zero, suc, _-_, _*_, _^_, _≤_, _<_}
 use native.Mathlib.Nat.{le-trans, pow-succ'}
 use native.Mathlib.Omega.{arith}
 use lib.IntN.{ℤ, pos, negsuc, natAbs}
@@ -13,9 +13,11 @@ use mir.Val.{SFits, boolByte}
 use Rattle.base.specs.Bit.{digit}
 use Rattle.bits.specs.Packed.{bits}
 use Rattle.bits.proofs.Packed.{length-bits}
-use Rattle.polar.specs.Code.{pay, score}
+use Rattle.polar.specs.Code.{score}
 use Rattle.polar.proofs.Values.{score-bound}
+use Rattle.folds.specs.Range.{valueLimit}
 use Rattle.folds.specs.Rows.{cell, costsOf, Within}
+use Rattle.folds.proofs.Limit.{limit-room, limit-narrow}
 use Rattle.kernel.specs.Kernels.{kernelCode}
 use Rattle.windows.specs.Tables.{shapeTable, shapeAt}
 use Rattle.windows.specs.Paths.{Held, IsDifference}
@@ -23,9 +25,9 @@ use Rattle.windows.proofs.Words.{pow-le}
 use Rattle.windows.proofs.Steps.{held-score, held-bound}
 use Rattle.windows.proofs.Stepping.{in-range}
 
-small-fits : (z : ℤ) → ((b : Bool) → pay z b ≤ 32752) → SFits w16 z
-small-fits (pos y) h = record { sfits = omega (arith, h true) }
-small-fits (negsuc y) h = record { sfits = omega (arith, h false) }
+small-fits : (z : ℤ) → natAbs z ≤ 16 * valueLimit → SFits w16 z
+small-fits (pos y) h = record { sfits = omega (arith, limit-narrow) }
+small-fits (negsuc y) h = record { sfits = omega (arith, limit-narrow) }
 
 one-le : (d : ℕ) → 0 < 2 ^ d
 one-le zero = omega arith
@@ -40,7 +42,7 @@ pub byte-small : (b : Bool) → boolByte b < 2
 byte-small false = omega arith
 byte-small true = omega arith
 
-module _ (k : ℕ) (lk : k < 3) (costs : List (List ℕ)) (most : Within 2047 costs) (symbols : ℕ) (shapes : List (List ℕ)) (es : shapes ≡ getD shapeTable k []) (s : ℕ) (ls : s < 16) where
+module _ (k : ℕ) (lk : k < 3) (costs : List (List ℕ)) (most : Within valueLimit costs) (symbols : ℕ) (shapes : List (List ℕ)) (es : shapes ≡ getD shapeTable k []) (s : ℕ) (ls : s < 16) where
   pub shape-is : getD shapes s [] ≡ getD (getD shapeTable k []) s []
   shape-is = ap (λ l. getD l s []) es
 
@@ -61,7 +63,7 @@ module _ (k : ℕ) (lk : k < 3) (costs : List (List ℕ)) (most : Within 2047 co
     pub difference-asks : ((0 < n) × (n ≤ 16)) × ((w : ℕ) (b : Bool) → w < n → natAbs (cell (pos 0) rows w b) ≤ 16777216)
     difference-asks = (
       (rw en (one-le (getD (getD shapes s []) 0 0 - s)), rw en (pow-le (getD (getD shapes s []) 0 0 - s) (range .2))),
-      λ w b l. le-trans (held-bound k s lk ls (costsOf costs) (take s (bits 16 symbols)) sized rows h 2047 most w b (rw (← paths-is, ← en) l)) (omega arith),
+      λ w b l. le-trans (held-bound k s lk ls (costsOf costs) (take s (bits 16 symbols)) sized rows h valueLimit most w b (rw (← paths-is, ← en) l)) limit-room,
     )
 
     pub difference-is : (r : ℤ) → IsDifference rows n r → r ≡ score (kernelCode k) (costsOf costs) (take s (bits 16 symbols))
@@ -69,4 +71,4 @@ module _ (k : ℕ) (lk : k < 3) (costs : List (List ℕ)) (most : Within 2047 co
 
   -- A score fits sixteen bits.
   pub score-fits : (r : ℤ) → r ≡ score (kernelCode k) (costsOf costs) (take s (bits 16 symbols)) → SFits w16 r
-  score-fits r e = small-fits r (λ b. rw e (score-bound (kernelCode k) (costsOf costs) 2047 most (take s (bits 16 symbols)) b))
+  score-fits r e = small-fits r (rw e (score-bound (kernelCode k) (costsOf costs) valueLimit most (take s (bits 16 symbols))))

@@ -16,6 +16,7 @@ use Rattle.bits.specs.Packed.{bits}
 use Rattle.polar.specs.Code.{Costs}
 use Rattle.polar.specs.Fold.{freeFold, knownFold, level, folded}
 use Rattle.polar.proofs.Folded.{folded-costs}
+use Rattle.folds.specs.Range.{valueLimit}
 use Rattle.folds.specs.Rows.{costsOf, Within, select, Pays}
 use Rattle.folds.proofs.Pairs.{known-pays, free-pays, known-le, free-le}
 use Rattle.windows.specs.Paths.{FourOf, lastLeast, pathLeast}
@@ -137,8 +138,8 @@ minus-back x l = toZ-ofZ (minus-fits x l) ∙ minus-is x l
 
 module _ (costs four : List (List ℕ)) (high word : ℕ) (h : FourOf costs high four word) where
   -- The two folds of small costs are small,
-  pub four-small : Within 65536 costs → (j : ℕ) (b : Bool) → j < 4 → costsOf four j b ≤ 262144
-  four-small most = four-le high (bit (bits 16 word)) (costsOf costs) (costsOf four) 65536 most h
+  pub four-small : Within valueLimit costs → (j : ℕ) (b : Bool) → j < 4 → costsOf four j b ≤ 4 * valueLimit
+  four-small most j b l = omega (arith, four-le high (bit (bits 16 word)) (costsOf costs) (costsOf four) valueLimit most h j b l)
 
   -- and the other two give the least total of the path.
   pub path-least : (path : ℕ) → word ≡ path → (b : Bool) → lastLeast four high word b ≡ pathLeast costs high path b

@@ -1,6 +1,8 @@
 -- `folds::free_at` meets its contract. Assumes nothing.
 use native.Mathlib.Omega.{arith}
+use Rattle.folds.specs.Range.{valueLimit}
 use Rattle.folds.specs.Rows.{costsOf}
+use Rattle.folds.proofs.Limit.{limit-room}
 use Rattle.folds.proofs.Pairs.{pays-small, free-pays}
 use borrow.Author.Needs.{needs}
 use Rattle.folds.proofs.free_at.Statement.{statement}
@@ -19,8 +21,8 @@ free-requires : tie.Need-free-requires
 free-requires c κs =
     let s = c .before .before in
     let m = costsOf (s .args .rows .now) in
-    let p = pays-small m _ _ _ 65536 (omega arith) (s .pre .1 _) (c .before .place .ensures) in
-    let q = pays-small m _ _ _ 65536 (omega arith) (s .pre .1 _) (c .place2 .ensures) in
+    let p = pays-small m _ _ _ valueLimit (omega (arith, limit-room)) (s .pre .1 _) (c .before .place .ensures) in
+    let q = pays-small m _ _ _ valueLimit (omega (arith, limit-room)) (s .pre .1 _) (c .place2 .ensures) in
     (p .0, p .1, q .0, q .1)
 
 returns : tie.Need-returns

@@ -1,11 +1,13 @@
 -- `folds::free_free` meets its contract. The rows are filled with the folded costs below place i. Assumes nothing.
 use mathlib.Core.Path.{_≡_}
-use Prim.Native.Nat.{_-_, _≤_}
+use Prim.Native.Nat.{_+_, _-_, _≤_}
 use native.Mathlib.Omega.{arith}
 use borrow.Author.Needs.{needs}
 use Rattle.polar.specs.Fold.{freeFold}
+use Rattle.folds.specs.Range.{valueLimit}
 use Rattle.folds.specs.Rows.{costsOf}
 use Rattle.folds.proofs.Fill.{Filled, filled-none, fill-both}
+use Rattle.folds.proofs.Limit.{limit-room}
 use Rattle.folds.proofs.Pairs.{pays-small, free-le, free-pays}
 use Rattle.folds.proofs.free_free.Statement.{statement}
 use Rattle.folds.proofs.free_free.Tie as tie
@@ -33,9 +35,9 @@ free-requires c κs =
     let d = c in
     let s = d .before .before .before .before in
     let m = (freeFold 8 (costsOf (s .args .rows .now))) in
-    let most = (free-le 8 (costsOf (s .args .rows .now)) 65536 (λ j b _. s .pre j b)) in
-    let p = pays-small m _ _ _ 131072 (omega arith) (λ b. most _ b (search needs)) (d .before .free-at .ensures) in
-    let q = pays-small m _ _ _ 131072 (omega arith) (λ b. most _ b (search needs)) (d .free-at2 .ensures) in
+    let most = (free-le 8 (costsOf (s .args .rows .now)) valueLimit (λ j b _. s .pre j b)) in
+    let p = pays-small m _ _ _ (valueLimit + valueLimit) (omega (arith, limit-room)) (λ b. most _ b (search needs)) (d .before .free-at .ensures) in
+    let q = pays-small m _ _ _ (valueLimit + valueLimit) (omega (arith, limit-room)) (λ b. most _ b (search needs)) (d .free-at2 .ensures) in
     (p .0, p .1, q .0, q .1)
 
 mul-out : tie.Need-mul-out Inv-loop μ-loop

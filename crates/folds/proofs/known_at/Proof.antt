@@ -2,7 +2,9 @@
 use native.Mathlib.Omega.{arith}
 use Rattle.base.specs.Bit.{bit}
 use Rattle.bits.specs.Packed.{bits}
+use Rattle.folds.specs.Range.{valueLimit}
 use Rattle.folds.specs.Rows.{costsOf}
+use Rattle.folds.proofs.Limit.{limit-room}
 use Rattle.folds.proofs.Pairs.{pays-small, known-pays}
 use borrow.Author.Needs.{needs}
 use Rattle.folds.proofs.known_at.Statement.{statement}
@@ -24,8 +26,8 @@ known-requires : tie.Need-known-requires
 known-requires c κs =
     let s = c .before .before .before in
     let m = costsOf (s .args .rows .now) in
-    let p = pays-small m _ _ _ 65536 (omega arith) (s .pre .1 _) (c .before .place .ensures) in
-    let q = pays-small m _ _ _ 65536 (omega arith) (s .pre .1 _) (c .place2 .ensures) in
+    let p = pays-small m _ _ _ valueLimit (omega (arith, limit-room)) (s .pre .1 _) (c .before .place .ensures) in
+    let q = pays-small m _ _ _ valueLimit (omega (arith, limit-room)) (s .pre .1 _) (c .place2 .ensures) in
     (p .0, p .1, q .0, q .1)
 
 returns : tie.Need-returns

@@ -2,6 +2,7 @@
 use mathlib.Core.Path.{sym, _∙_}
 use borrow.Author.Needs.{needs}
 use borrow.Author.Tests.{not-true, not-false, lt-ltb, le-ltb, eq-eqb, ne-eqb}
+use Rattle.folds.specs.Range.{valueLimit}
 use Rattle.follow.specs.Jobs.{kernelFollowChecks}
 use Rattle.follow.proofs.follow_check.Statement.{statement}
 use Rattle.follow.proofs.follow_check.Tie as tie
@@ -30,7 +31,7 @@ first-outside-requires : tie.Need-first-outside-requires
 first-outside-requires c κs = search needs
 
 returns-4 : tie.Need-returns-4
-unfolding kernelFollowChecks
+unfolding kernelFollowChecks valueLimit
 returns-4 c =
     let r = c .before .before in
     let n = r .before in
@@ -44,7 +45,7 @@ returns-4 c =
     )
 
 returns-5 : tie.Need-returns-5
-unfolding kernelFollowChecks
+unfolding kernelFollowChecks valueLimit
 returns-5 c =
     let r = c .before .before in
     let n = r .before in

@@ -9,7 +9,8 @@ use lib.ListN.{length, getD}
 use Rattle.base.proofs.List.{each-next}
 use Rattle.polar.specs.Code.{pay, channel}
 use Rattle.folds.specs.Rows.{costsOf, Within}
-use Rattle.folds.specs.Range.{firstOutside}
+use Rattle.folds.specs.Range.{valueLimit, firstOutside}
+use Rattle.folds.proofs.Limit.{frame-inside}
 use Rattle.folds.proofs.Range.{outside-all, outside-none}
 use borrow.Author.Needs.{needs}
 use Rattle.frame_run.proofs.outer_costs.Statement.{statement}
@@ -44,7 +45,7 @@ cost-rows-requires : tie.Need-cost-rows-requires Inv-loop μ-loop
 cost-rows-requires c κs =
     let z = c .before .before .before .before in
     let n : length (c .before .block-values .result) ≡ 16 = search needs in
-    (n, inside (z .args .values .now) _ (c .before .before .before .loop .j) 2047 (z .pre .0) (z .pre .1) (search needs) n (omega arith) (c .before .block-values .ensures))
+    (n, inside (z .args .values .now) _ (c .before .before .before .loop .j) valueLimit (z .pre .0) (z .pre .1) (search needs) n (omega (arith, frame-inside)) (c .before .block-values .ensures))
 
 mul-out : tie.Need-mul-out Inv-loop μ-loop
 mul-out c = search needs

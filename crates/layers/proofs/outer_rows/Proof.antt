@@ -5,6 +5,7 @@ use Prim.Native.Nat.{ℕ, _-_, _≤_, _<_}
 use native.Mathlib.Omega.{arith}
 use lib.ListN.{length, getD}
 use Rattle.base.proofs.List.{each-next}
+use Rattle.folds.proofs.Limit.{frame-inside}
 use Rattle.windows.specs.Paths.{Held}
 use Rattle.layers.specs.Layers.{costsAt, columnBefore}
 use borrow.Author.Needs.{needs}
@@ -47,7 +48,7 @@ step-requires c κs =
     let l = c .before .before .before .before .before .loop in
     let p = c .before .before .before .before .before .before .pre in
     let lj : l .j < 16 = search needs in
-    (p .0, (p .1 .0, ((λ i b. omega (arith, p .1 .1 .0 (l .j) lj i b)), λ z. rw (c .word-bit .ensures) (p .1 .1 .1 z (l .j) lj))))
+    (p .0, (p .1 .0, ((λ i b. omega (arith, frame-inside, p .1 .1 .0 (l .j) lj i b)), λ z. rw (c .word-bit .ensures) (p .1 .1 .1 z (l .j) lj))))
 
 mul-out : tie.Need-mul-out Inv-loop μ-loop
 mul-out c = search needs

@@ -3,6 +3,7 @@
 use mathlib.Core.Path.{_≡_, refl, ap, _∙_}
 use mathlib.Core.List.{[]}
 use Prim.Native.Nat.{_+_, _-_, _≤_, _<_}
+use native.Mathlib.Nat.{le-trans}
 use native.Mathlib.Omega.{arith}
 use lib.ListN.{take, getD}
 use mir.Facts.{toZ-ofZ}
@@ -12,13 +13,15 @@ use Rattle.bits.proofs.Packed.{length-bits, zero-at}
 use Rattle.polar.specs.Code.{pay, score}
 use Rattle.polar.proofs.Least.{least-cong, channel-nil}
 use Rattle.polar.proofs.Values.{score-bound}
+use Rattle.folds.specs.Range.{valueLimit}
 use Rattle.folds.specs.Rows.{costsOf, Within}
+use Rattle.folds.proofs.Limit.{limit-room, limit-narrow}
 use Rattle.kernel.specs.Kernels.{kernelCode}
 use Rattle.kernel.proofs.Undoing.{kernel-code-onto}
 use Rattle.windows.proofs.Following.{range, difference-asks, difference-is, score-fits}
 use Rattle.run.specs.Run.{symbolBy}
 use Rattle.run.proofs.Narrow.{whole, narrow}
-use Rattle.run.proofs.Phases.{AfterPhases, no-phase, phase-turn, next-bound, size-le, run-of}
+use Rattle.run.proofs.Phases.{AfterPhases, no-phase, phase-turn, next-bound, run-of}
 use borrow.Author.Needs.{needs}
 use Rattle.run.proofs.kernel_run.Statement.{statement}
 use Rattle.run.proofs.kernel_run.Tie as tie
@@ -33,9 +36,9 @@ abbrev μ-loop : tie.MeasureT-loop
 cost-rows-requires : tie.Need-cost-rows-requires Inv-loop μ-loop
 cost-rows-requires c κs = search needs
 
--- No cost exceeds 2047.
-most : (c : tie.After-cost-rows Inv-loop μ-loop) → Within 2047 (c .cost-rows .result)
-most c = c .cost-rows .ensures .1 2047 (c .before .pre .1 .1 .1)
+-- No cost exceeds the limit.
+most : (c : tie.After-cost-rows Inv-loop μ-loop) → Within valueLimit (c .cost-rows .result)
+most c = c .cost-rows .ensures .1 valueLimit (c .before .pre .1 .1 .1)
 
 loop-holds : tie.Need-loop-holds Inv-loop μ-loop
 loop-holds c =
@@ -67,7 +70,7 @@ step-requires c κs =
           ap (λ t. getD t (l .s) []) (c .before .before .before .before .before .before .pre .1 .0 .0),
           ap (λ t. getD t (l .s) []) (c .before .before .before .before .before .before .pre .1 .0 .1),
         ),
-        ((λ j d. omega (arith, most (c .before .before .before .before .before) j d)), l .inv .kept-so),
+        (most (c .before .before .before .before .before), l .inv .kept-so),
       ),
     )
 
@@ -107,7 +110,7 @@ paid-requires : tie.Need-paid-requires Inv-loop μ-loop
 paid-requires c κs =
     let e = c .before in
     rw (toZ-ofZ (record { sfits = e .difference .ok }))
-    (size-le (e .difference .result) 32752 (λ d. rw (found e) (score-bound (kernelCode _) _ 2047 (most (c .before .before .before .before .before .before .before .before .before .before)) _ d)))
+    (rw (found e) (le-trans (score-bound (kernelCode _) _ valueLimit (most (c .before .before .before .before .before .before .before .before .before .before)) _) limit-room))
 
 -- The symbol of the phase, by its source.
 owned : (c : tie.After-symbol-of Inv-loop μ-loop) → (let l = c .before .before .before .before .before .before .before .before .before .loop in
@@ -124,7 +127,7 @@ pays : (c : tie.After-paid Inv-loop μ-loop) → c .paid .result ≡ pay (c .bef
 pays c = c .paid .ensures ∙ ap (λ y. pay y (c .before .symbol-of .result)) (whole (c .before .before .difference .result) (record { sfits = c .before .before .difference .ok }))
 
 -- The penalty stays small.
-small : (c : tie.After-paid Inv-loop μ-loop) → (let l = c .before .before .before .before .before .before .before .before .before .before .loop in l .penalty + c .paid .result ≤ 65264)
+small : (c : tie.After-paid Inv-loop μ-loop) → (let l = c .before .before .before .before .before .before .before .before .before .before .loop in l .penalty + c .paid .result ≤ 65279)
 small c =
     let l = c .before .before .before .before .before .before .before .before .before .before .loop in
     let r = c .before .before .before .before .before .before .before .before .before .before .before .before in
@@ -132,6 +135,7 @@ small c =
       arith,
       pays c,
       r .pre .0 .1,
+      limit-narrow,
       next-bound (r .args .kernel) _ _ _ (r .args .start) (l .s) _ _ _ _ _ _ (l .inv) (search needs) _ (found (c .before .before)) _ (owned (c .before))
           (c .before .before .before .before .before .step .result) (c .before .before .before .before .before .step .ensures) _ refl (most (c .before .before .before .before .before .before .before .before .before .before .before)),
     )

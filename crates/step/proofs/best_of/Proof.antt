@@ -8,7 +8,9 @@ use mir.Facts.{toZ-ofZ}
 use Rattle.base.specs.Bit.{bit}
 use Rattle.bits.specs.Packed.{bits}
 use Rattle.polar.specs.Fold.{level}
+use Rattle.folds.specs.Range.{valueLimit}
 use Rattle.folds.specs.Rows.{costsOf}
+use Rattle.folds.proofs.Limit.{limit-room}
 use Rattle.folds.proofs.Pairs.{pays-small}
 use Rattle.windows.proofs.Levels.{turned, level-le}
 use borrow.Author.Needs.{needs}
@@ -24,8 +26,8 @@ minus-requires c κs =
     let y : ℕ → Bool = bit (bits 16 (s .args .word)) in
     let m = costsOf (s .args .four .now) in
     let two = level 2 (s .args .high % 4) (λ i. y (s .args .high / 4 * 4 + i)) m in
-    let most = level-le 2 (s .args .high % 4) (λ i. y (s .args .high / 4 * 4 + i)) m 262144 (s .pre .1) in
-    (pays-small (level 1 (s .args .high % 2) (λ i. y (s .args .high / 2 * 2 + i)) two) 0 _ _ 1048576 (omega arith) (λ b. level-le 1 (s .args .high % 2) (λ i. y (s .args .high / 2 * 2 + i)) two 524288 most 0 b (omega arith)) (c .last-two .ensures)) .0
+    let most = level-le 2 (s .args .high % 4) (λ i. y (s .args .high / 4 * 4 + i)) m (4 * valueLimit) (s .pre .1) in
+    (pays-small (level 1 (s .args .high % 2) (λ i. y (s .args .high / 2 * 2 + i)) two) 0 _ _ (8 * valueLimit + 8 * valueLimit) (omega (arith, limit-room)) (λ b. level-le 1 (s .args .high % 2) (λ i. y (s .args .high / 2 * 2 + i)) two (8 * valueLimit) (λ j d l. omega (arith, most j d l)) 0 b (omega arith)) (c .last-two .ensures)) .0
 
 minus-requires-2 : tie.Need-minus-requires-2
 minus-requires-2 c κs =
@@ -33,8 +35,8 @@ minus-requires-2 c κs =
     let y : ℕ → Bool = bit (bits 16 (s .args .word)) in
     let m = costsOf (s .args .four .now) in
     let two = level 2 (s .args .high % 4) (λ i. y (s .args .high / 4 * 4 + i)) m in
-    let most = level-le 2 (s .args .high % 4) (λ i. y (s .args .high / 4 * 4 + i)) m 262144 (s .pre .1) in
-    (pays-small (level 1 (s .args .high % 2) (λ i. y (s .args .high / 2 * 2 + i)) two) 0 _ _ 1048576 (omega arith) (λ b. level-le 1 (s .args .high % 2) (λ i. y (s .args .high / 2 * 2 + i)) two 524288 most 0 b (omega arith)) (c .before .last-two .ensures)) .1
+    let most = level-le 2 (s .args .high % 4) (λ i. y (s .args .high / 4 * 4 + i)) m (4 * valueLimit) (s .pre .1) in
+    (pays-small (level 1 (s .args .high % 2) (λ i. y (s .args .high / 2 * 2 + i)) two) 0 _ _ (8 * valueLimit + 8 * valueLimit) (omega (arith, limit-room)) (λ b. level-le 1 (s .args .high % 2) (λ i. y (s .args .high / 2 * 2 + i)) two (8 * valueLimit) (λ j d l. omega (arith, most j d l)) 0 b (omega arith)) (c .before .last-two .ensures)) .1
 
 word-bit-requires : tie.Need-word-bit-requires
 word-bit-requires c κs = search needs

@@ -6,7 +6,9 @@ use native.Mathlib.Omega.{arith}
 use Rattle.base.specs.Bit.{bit}
 use Rattle.bits.specs.Packed.{bits}
 use Rattle.polar.specs.Fold.{level}
+use Rattle.folds.specs.Range.{valueLimit}
 use Rattle.folds.specs.Rows.{costsOf}
+use Rattle.folds.proofs.Limit.{limit-room}
 use Rattle.folds.proofs.Pairs.{pays-small}
 use Rattle.windows.proofs.Levels.{level-pays, level-le}
 use borrow.Author.Needs.{needs}
@@ -30,8 +32,8 @@ fold-pair-requires c κs =
     let d = c in
     let s = d .before .before .before in
     let m = costsOf (s .args .four .now) in
-    let p = pays-small m _ _ _ 262144 (omega arith) (λ b. s .pre .1 _ b (omega arith)) (d .before .place .ensures) in
-    let q = pays-small m _ _ _ 262144 (omega arith) (λ b. s .pre .1 _ b (omega arith)) (d .place2 .ensures) in
+    let p = pays-small m _ _ _ (4 * valueLimit) (omega (arith, limit-room)) (λ b. s .pre .1 _ b (omega arith)) (d .before .place .ensures) in
+    let q = pays-small m _ _ _ (4 * valueLimit) (omega (arith, limit-room)) (λ b. s .pre .1 _ b (omega arith)) (d .place2 .ensures) in
     (p .0, p .1, q .0, q .1)
 
 add-word-bit : tie.Need-add-word-bit
@@ -51,8 +53,8 @@ fold-pair-requires-2 c κs =
     let d = c in
     let s = d .before .before .before .before .before .before .before in
     let m = costsOf (s .args .four .now) in
-    let p = pays-small m _ _ _ 262144 (omega arith) (λ b. s .pre .1 _ b (omega arith)) (d .before .place3 .ensures) in
-    let q = pays-small m _ _ _ 262144 (omega arith) (λ b. s .pre .1 _ b (omega arith)) (d .place4 .ensures) in
+    let p = pays-small m _ _ _ (4 * valueLimit) (omega (arith, limit-room)) (λ b. s .pre .1 _ b (omega arith)) (d .before .place3 .ensures) in
+    let q = pays-small m _ _ _ (4 * valueLimit) (omega (arith, limit-room)) (λ b. s .pre .1 _ b (omega arith)) (d .place4 .ensures) in
     (p .0, p .1, q .0, q .1)
 
 mul-word-bit : tie.Need-mul-word-bit
@@ -72,9 +74,9 @@ fold-pair-requires-3 c κs =
     let e : s .args .high / 4 * 4 ≡ s .args .high / 4 * 4 + 0 = omega arith in
     let p = level-pays 2 n 0 z m _ _ _ _ _ _ (d .before .before .before .before .before .before .before .place .ensures) (d .before .before .before .before .before .before .place2 .ensures) _ (d .before .before .before .before .before .before .before .before .word-bit .ensures ∙ ap y e) (d .before .before .before .before .before .fold-pair .ensures) in
     let q = level-pays 2 n 1 z m _ _ _ _ _ _ (d .before .before .before .place3 .ensures) (d .before .before .place4 .ensures) _ (d .before .before .before .before .word-bit2 .ensures) (d .before .fold-pair2 .ensures) in
-    let most = level-le 2 n z m 262144 (s .pre .1) in
-    let u = pays-small (level 2 n z m) 0 _ _ 524288 (omega arith) (λ b. most 0 b (omega arith)) p in
-    let v = pays-small (level 2 n z m) 1 _ _ 524288 (omega arith) (λ b. most 1 b (omega arith)) q in
+    let most = level-le 2 n z m (4 * valueLimit) (s .pre .1) in
+    let u = pays-small (level 2 n z m) 0 _ _ (4 * valueLimit + 4 * valueLimit) (omega (arith, limit-room)) (λ b. most 0 b (omega arith)) p in
+    let v = pays-small (level 2 n z m) 1 _ _ (4 * valueLimit + 4 * valueLimit) (omega (arith, limit-room)) (λ b. most 1 b (omega arith)) q in
     (u .0, u .1, v .0, v .1)
 
 returns : tie.Need-returns
