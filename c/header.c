@@ -10,8 +10,8 @@
 
 #include "nospridda.h"
 
-#if NOSPRIDDA_VERSION != 3
-#error "c/header.c is for version 3 of the header"
+#if NOSPRIDDA_VERSION != 4
+#error "c/header.c is for version 4 of the header"
 #endif
 
 /* The header's sizes under shorter names. */
@@ -72,17 +72,23 @@ static void kernels(void)
     word_outcome(nospridda_kernel_undo(3, 0xa6c0), NOSPRIDDA_NO_KERNEL, 0, "kernel undo, kernel 3");
 }
 
-static void kernel_follow(void)
+static void all_values(int32_t *values, int32_t value)
 {
-    static const int16_t first[SIXTEEN] = {1, 2, 2, 2, 2, 4, 4, 4, 4, 6, 6, 8, 8, 8, 8, 16};
-    static const int16_t second[SIXTEEN] = {1, 2, 2, 4, 2, 2, 4, 4, 6, 6, 8, 8, 4, 8, 8, 16};
-    int16_t values[SIXTEEN];
-    int16_t scores[SIXTEEN] = {0};
     size_t i;
 
     for (i = 0; i < SIXTEEN; i++) {
-        values[i] = 1;
+        values[i] = value;
     }
+}
+
+static void kernel_follow(void)
+{
+    static const int32_t first[SIXTEEN] = {1, 2, 2, 2, 2, 4, 4, 4, 4, 6, 6, 8, 8, 8, 8, 16};
+    static const int32_t second[SIXTEEN] = {1, 2, 2, 4, 2, 2, 4, 4, 6, 6, 8, 8, 4, 8, 8, 16};
+    int32_t values[SIXTEEN];
+    int32_t scores[SIXTEEN] = {0};
+
+    all_values(values, 1);
     outcome(nospridda_kernel_follow(1, values, SIXTEEN, 0, scores, SIXTEEN), NOSPRIDDA_ACCEPTED, 0,
             "kernel follow, kernel 1");
     expect(memcmp(scores, first, sizeof scores) == 0, "the partial distances of kernel 1");
@@ -94,10 +100,35 @@ static void kernel_follow(void)
     outcome(nospridda_kernel_follow(2, values, SIXTEEN, 0x8000, scores, SIXTEEN), NOSPRIDDA_ACCEPTED, 0,
             "kernel follow, symbol 0 set");
     expect(scores[0] == 1 && scores[1] == 0, "scores after symbol 0");
+}
 
-    values[5] = -2048;
+/* The ends of the range of a kernel's values. */
+static void kernel_limits(void)
+{
+    int32_t values[SIXTEEN];
+    int32_t scores[SIXTEEN] = {0};
+
+    all_values(values, 2048);
+    outcome(nospridda_kernel_follow(0, values, SIXTEEN, 0, scores, SIXTEEN), NOSPRIDDA_ACCEPTED, 0,
+            "kernel follow, all values 2048");
+    expect(scores[0] == 2048 && scores[15] == 32768, "a score that needs more than sixteen bits");
+
+    all_values(values, 32767);
+    values[0] = -32767;
+    outcome(nospridda_kernel_follow(2, values, SIXTEEN, 0, scores, SIXTEEN), NOSPRIDDA_ACCEPTED, 0,
+            "kernel follow, the ends of the range");
+    expect(scores[15] == 14 * 32767, "the last score, one value against fifteen");
+
+    values[9] = 32768;
+    outcome(nospridda_kernel_follow(2, values, SIXTEEN, 0, scores, SIXTEEN), NOSPRIDDA_VALUE_OUT_OF_RANGE, 9,
+            "kernel follow, 32768");
+    values[5] = -32768;
     outcome(nospridda_kernel_follow(2, values, SIXTEEN, 0, scores, SIXTEEN), NOSPRIDDA_VALUE_OUT_OF_RANGE, 5,
-            "kernel follow, a value out of range");
+            "kernel follow, -32768");
+    values[5] = INT32_MIN;
+    outcome(nospridda_kernel_follow(2, values, SIXTEEN, 0, scores, SIXTEEN), NOSPRIDDA_VALUE_OUT_OF_RANGE, 5,
+            "kernel follow, the least number");
+    expect(scores[15] == 14 * 32767, "scores kept by a refusal");
 }
 
 static void masks(uint8_t *mask)
@@ -250,6 +281,7 @@ int main(void)
 
     kernels();
     kernel_follow();
+    kernel_limits();
     masks(mask);
     encode_and_undo(mask);
     decode(mask);

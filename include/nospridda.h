@@ -28,7 +28,7 @@
  * The library is built for x86-64 Linux, because that is what the kit that
  * proves it compiles for. Firmware on another processor needs the kit's back
  * end for that processor. On x86-64 frame follow and frame decode take at most
- * 14.6 KiB of stack, kernel follow 3.3 KiB (measured, not proved; see
+ * 14.7 KiB of stack, kernel follow 3.4 KiB (measured, not proved; see
  * docs/BENCH.md).
  *
  * What the caller must keep, and nothing proves or looks at:
@@ -53,7 +53,7 @@
 /* The version of this interface. It goes up by one with every change of a
  * declaration, a number, a size or a result that callers could rely on. What is
  * only added leaves it as it is. */
-#define NOSPRIDDA_VERSION 3
+#define NOSPRIDDA_VERSION 4
 
 /* Sizes, in elements of the buffer that they are for. */
 #define NOSPRIDDA_KERNEL_BITS 16  /* symbols, bits, values and scores of a kernel */
@@ -113,8 +113,8 @@ struct nospridda_word_outcome nospridda_kernel_undo(uint8_t kernel, uint16_t wor
 
 /* Kernel follow: the scores of sixteen symbols over sixteen channel values.
  *
- * values     16 values, each from -2047 to 2047 and positive for bit 0.
- * scores     16 of them are written, each from -32752 to 32752.
+ * values     16 values, each from -32767 to 32767 and positive for bit 0.
+ * scores     16 of them are written, each from -524272 to 524272.
  *
  * The score of a phase is the best score of the words that begin with the
  * symbols before it and have 0 next, less that of the words with 1 next. A word
@@ -128,9 +128,9 @@ struct nospridda_word_outcome nospridda_kernel_undo(uint8_t kernel, uint16_t wor
  *   6  a value is out of range; place: the index of the lowest, 0 to 15. */
 struct nospridda_outcome nospridda_kernel_follow(
     uint8_t kernel,
-    const int16_t *values, size_t values_length,
+    const int32_t *values, size_t values_length,
     uint16_t symbols,
-    int16_t *scores, size_t scores_length);
+    int32_t *scores, size_t scores_length);
 
 /* Frame encode: the word of a payload.
  *

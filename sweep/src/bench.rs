@@ -15,7 +15,7 @@ use crate::library::{
 use crate::paper::Kernel;
 use crate::product::value;
 use crate::random::Random;
-use crate::scores::{pay, scores as kernel_scores, totals, Values};
+use crate::scores::{pay, scores as kernel_scores, totals, Values, LIMIT};
 
 /// How many different inputs a job is timed on, one after another.
 const INPUTS: usize = 256;
@@ -79,7 +79,7 @@ impl Inputs {
         let mut random = Random::new(2);
         let mut mask = [0; 32];
         information_mask(PAYLOAD, &mut mask);
-        let values = inputs(|| std::array::from_fn(|_| random.between(-2047, 2047)));
+        let values = inputs(|| std::array::from_fn(|_| random.wide(-LIMIT, LIMIT)));
         let payloads = inputs(|| std::array::from_fn(|_| random.word() as u8));
         let amplitudes =
             inputs(|| std::array::from_fn(|_| f32::from(random.between(-4096, 4096)) / 1024.0));
@@ -123,7 +123,7 @@ impl Inputs {
     /// The jobs of one kernel, and both ways to its word.
     #[inline(never)]
     fn kernel_job(&self, job: &str, count: u64, out: &mut Outputs) -> bool {
-        let (inner, scores) = (self.inner, &mut out.scores);
+        let (inner, scores) = (self.inner, &mut out.sixteen);
         match job {
             "kernel-encode" => each(count, |i| {
                 black_box(kernel_encode(inner, self.words[i]));
@@ -260,6 +260,8 @@ impl Inputs {
 
 /// What the jobs write to; it is not on the stack.
 struct Outputs {
+    /// The scores of a kernel.
+    sixteen: Box<[i32; 16]>,
     scores: Box<[i16; 256]>,
     penalties: Box<[u16; 256]>,
     values: Box<[i8; 256]>,
@@ -269,6 +271,7 @@ struct Outputs {
 impl Outputs {
     fn new() -> Outputs {
         Outputs {
+            sixteen: Box::new([0; 16]),
             scores: Box::new([0; 256]),
             penalties: Box::new([0; 256]),
             values: Box::new([0; 256]),

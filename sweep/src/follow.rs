@@ -3,7 +3,7 @@ use crate::library::Outcome;
 use crate::paper::{bit, Kernel};
 use crate::random::Random;
 use crate::recorded::kernel_follow;
-use crate::scores::{best_symbols, pay, scores, totals, Values};
+use crate::scores::{best_symbols, pay, scores, totals, Values, LIMIT};
 use crate::tally::Tally;
 use crate::traps::{self, Traps};
 
@@ -11,7 +11,7 @@ use crate::traps::{self, Traps};
 const CASES: u64 = 300;
 
 /// What an output buffer holds before a call: no score is as low.
-const UNTOUCHED: i16 = i16::MIN;
+const UNTOUCHED: i32 = i32::MIN;
 
 /// How much longer than needed it is.
 const SPARE: usize = 4;
@@ -46,18 +46,19 @@ pub fn sweep(tally: &mut Tally, kernels: &[Kernel]) {
 type Make = fn(&mut Random, &Kernel) -> Values;
 
 /// The kinds of values.
-const KINDS: [(&str, Make); 5] = [
+const KINDS: [(&str, Make); 6] = [
     ("full range", |random, _| full_range(random)),
-    ("narrow", |random, _| each(|| random.between(-3, 3))),
+    ("small", |random, _| each(|| random.wide(-3, 3))),
+    ("up to 2032", |random, _| each(|| random.wide(-2032, 2032))),
     ("many zeros", |random, _| {
         each(|| match random.between(0, 7) {
-            0 => random.between(-2047, 2047),
-            1 => random.between(-3, 3),
+            0 => random.wide(-LIMIT, LIMIT),
+            1 => random.wide(-3, 3),
             _ => 0,
         })
     }),
     ("many ties", |random, _| {
-        let magnitudes = [random.between(1, 3), random.between(1, 2047), 2047];
+        let magnitudes = [random.wide(1, 3), random.wide(1, LIMIT), LIMIT];
         each(|| {
             let y = magnitudes[random.between(0, 2) as usize];
             if random.once_in(2) {
@@ -70,7 +71,7 @@ const KINDS: [(&str, Make); 5] = [
     ("a word with noise", |random, kernel| {
         let word = kernel.words[usize::from(random.word())];
         std::array::from_fn(|i| {
-            let y = random.between(-300, 900);
+            let y = random.wide(-9000, 27000);
             if bit(word, i) {
                 -y
             } else {
@@ -81,23 +82,23 @@ const KINDS: [(&str, Make); 5] = [
 ];
 
 /// Sixteen values, one after another.
-fn each(mut value: impl FnMut() -> i16) -> Values {
+fn each(mut value: impl FnMut() -> i32) -> Values {
     std::array::from_fn(|_| value())
 }
 
 fn full_range(random: &mut Random) -> Values {
-    each(|| random.between(-2047, 2047))
+    each(|| random.wide(-LIMIT, LIMIT))
 }
 
 /// One accepted case: the outcome, all sixteen scores, and that what lies past them stays.
-fn compare(tally: &mut Tally, kernel: u8, values: &Values, symbols: u16, want: &[i32; 16]) {
+fn compare(tally: &mut Tally, kernel: u8, values: &Values, symbols: u16, want: &[i64; 16]) {
     let mut got = [UNTOUCHED; 16 + SPARE];
     let outcome = kernel_follow(kernel, values, symbols, &mut got);
     if outcome != ACCEPTED {
         tally.wrong(format_args!(
             "kernel {kernel}, values {values:?}, symbols {symbols:016b}: wanted {ACCEPTED:?}, got {outcome:?}"
         ));
-    } else if let Some(phase) = (0..16).find(|&phase| i32::from(got[phase]) != want[phase]) {
+    } else if let Some(phase) = (0..16).find(|&phase| i64::from(got[phase]) != want[phase]) {
         let (want, got) = (want[phase], got[phase]);
         tally.wrong(format_args!(
             "kernel {kernel}, values {values:?}, symbols {symbols:016b}, phase {phase}: wanted {want}, got {got}"
@@ -136,7 +137,7 @@ fn random_cases(tally: &mut Tally, kernel: &Kernel, random: &mut Random, mistake
 
 /// The paper's bench cases of kernel follow.
 fn bench_cases(tally: &mut Tally, kernels: &[Kernel]) {
-    let profiles: [[i32; 16]; 3] = [
+    let profiles: [[i64; 16]; 3] = [
         [1, 2, 2, 4, 2, 4, 4, 8, 2, 4, 4, 8, 4, 8, 8, 16],
         [1, 2, 2, 2, 2, 4, 4, 4, 4, 6, 6, 8, 8, 8, 8, 16],
         [1, 2, 2, 4, 2, 2, 4, 4, 6, 6, 8, 8, 4, 8, 8, 16],
@@ -144,10 +145,11 @@ fn bench_cases(tally: &mut Tally, kernels: &[Kernel]) {
     let mut cases = 0;
     for kernel in kernels {
         let profile = profiles[usize::from(kernel.number)];
-        compare(tally, kernel.number, &[1; 16], 0, &profile);
-        let most = profile.map(|d| 2047 * d);
-        compare(tally, kernel.number, &[2047; 16], 0, &most);
-        cases += 2;
+        for y in [1, 2047, 2048, LIMIT] {
+            let want = profile.map(|d| i64::from(y) * d);
+            compare(tally, kernel.number, &[y; 16], 0, &want);
+            cases += 1;
+        }
         for symbols in (0..=u16::MAX).step_by(257) {
             compare(tally, kernel.number, &[0; 16], symbols, &[0; 16]);
             cases += 1;
@@ -161,23 +163,21 @@ fn limits(tally: &mut Tally, kernels: &[Kernel], random: &mut Random) {
     let mut paid = Vec::new();
     let mut cases = 0;
     for kernel in kernels {
-        let mut tried = vec![[2047; 16], [-2047; 16]];
+        let mut tried = vec![[LIMIT; 16], [-LIMIT; 16]];
         for place in 0..16 {
-            for y in [2047, -2047] {
+            for y in [LIMIT, -LIMIT] {
                 let mut values = full_range(random);
                 values[place] = y;
                 tried.push(values);
             }
             let word = kernel.words[usize::from(random.word())];
-            tried.push(std::array::from_fn(
-                |i| {
-                    if bit(word, i) {
-                        -2047
-                    } else {
-                        2047
-                    }
-                },
-            ));
+            tried.push(std::array::from_fn(|i| {
+                if bit(word, i) {
+                    -LIMIT
+                } else {
+                    LIMIT
+                }
+            }));
         }
         for values in &tried {
             totals(kernel, values, pay, &mut paid);
@@ -195,12 +195,12 @@ fn limits(tally: &mut Tally, kernels: &[Kernel], random: &mut Random) {
 fn refused(
     tally: &mut Tally,
     kernel: u8,
-    values: &[i16],
+    values: &[i32],
     symbols: u16,
     output: usize,
     want: Outcome,
 ) {
-    let before: Vec<i16> = (0..output).map(|i| 12345 - i as i16).collect();
+    let before: Vec<i32> = (0..output).map(|i| 123_456_789 - i as i32).collect();
     let mut after = before.clone();
     let got = kernel_follow(kernel, values, symbols, &mut after);
     tally.expect(
@@ -212,8 +212,17 @@ fn refused(
     );
 }
 
-/// Values outside the range.
-const OUTSIDE: [i16; 5] = [2048, -2048, -32768, 32767, 2049];
+/// Values outside the range: the nearest, the ends of the type, and some that are in range by their low sixteen bits.
+const OUTSIDE: [i32; 8] = [
+    LIMIT + 1,
+    -LIMIT - 1,
+    LIMIT + 2,
+    i32::MAX,
+    i32::MIN,
+    65536,
+    65537,
+    -65535,
+];
 
 fn out_of_range(tally: &mut Tally, random: &mut Random) {
     let mut cases = 0;
@@ -235,7 +244,12 @@ fn two_offenders(tally: &mut Tally, random: &mut Random) {
     for kernel in 0..3 {
         for low in 0..16 {
             for high in low + 1..16 {
-                for (first, second) in [(2048, -2048), (-2048, 2048), (2048, -32768)] {
+                for (first, second) in [
+                    (LIMIT + 1, -LIMIT - 1),
+                    (-LIMIT - 1, LIMIT + 1),
+                    (LIMIT + 1, i32::MIN),
+                    (i32::MIN, i32::MAX),
+                ] {
                     let mut values = full_range(random);
                     values[low] = first;
                     values[high] = second;
@@ -252,7 +266,7 @@ fn lengths(tally: &mut Tally, random: &mut Random) {
     let mut cases = 0;
     for kernel in 0..3 {
         for length in [0, 1, 15, 17, 32] {
-            let values: Vec<i16> = (0..length).map(|_| random.between(-2047, 2047)).collect();
+            let values: Vec<i32> = (0..length).map(|_| random.wide(-LIMIT, LIMIT)).collect();
             refused(tally, kernel, &values, random.word(), 16, refusal(2, 0));
             cases += 1;
         }
@@ -291,7 +305,7 @@ fn no_kernel(tally: &mut Tally, random: &mut Random) {
     for kernel in 3..=u8::MAX {
         let (values, symbols) = (full_range(random), random.word());
         refused(tally, kernel, &values, symbols, 16, refusal(1, 0));
-        refused(tally, kernel, &[2048; 17], symbols, 15, refusal(1, 0));
+        refused(tally, kernel, &[LIMIT + 1; 17], symbols, 15, refusal(1, 0));
         cases += 2;
     }
     tally.group("follow, kernels 3 to 255 refused", cases);
@@ -317,7 +331,7 @@ fn conditions_at_once(tally: &mut Tally, random: &mut Random) {
             };
             let mut values = full_range(random).to_vec();
             if holds(6) {
-                values[place] = 2048;
+                values[place] = LIMIT + 1;
             }
             if holds(2) {
                 values.truncate(15);

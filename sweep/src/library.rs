@@ -22,10 +22,10 @@ extern "C" {
     fn nospridda_kernel_undo(kernel: u8, word: u16) -> WordOutcome;
     fn nospridda_kernel_follow(
         kernel: u8,
-        values: *const i16,
+        values: *const i32,
         values_length: usize,
         symbols: u16,
-        scores: *mut i16,
+        scores: *mut i32,
         scores_length: usize,
     ) -> Outcome;
     fn nospridda_frame_encode(
@@ -99,7 +99,7 @@ pub fn kernel_undo(kernel: u8, word: u16) -> WordOutcome {
     unsafe { nospridda_kernel_undo(kernel, word) }
 }
 
-pub fn kernel_follow(kernel: u8, values: &[i16], symbols: u16, scores: &mut [i16]) -> Outcome {
+pub fn kernel_follow(kernel: u8, values: &[i32], symbols: u16, scores: &mut [i32]) -> Outcome {
     // Safe for every input: each buffer goes with its length, and a `&mut` overlaps no other.
     unsafe {
         nospridda_kernel_follow(

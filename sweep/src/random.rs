@@ -23,8 +23,13 @@ impl Random {
 
     /// A number from low to high, both among them.
     pub fn between(&mut self, low: i16, high: i16) -> i16 {
+        self.wide(low.into(), high.into()) as i16
+    }
+
+    /// The same with 32 bits.
+    pub fn wide(&mut self, low: i32, high: i32) -> i32 {
         let count = (i64::from(high) - i64::from(low) + 1) as u64;
-        (i64::from(low) + ((self.next() >> 32) % count) as i64) as i16
+        (i64::from(low) + ((self.next() >> 32) % count) as i64) as i32
     }
 
     /// True once in n times.

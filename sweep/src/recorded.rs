@@ -156,6 +156,14 @@ impl Element for i16 {
     }
 }
 
+impl Element for i32 {
+    const BORDER: i32 = -0x4a4a_4a4b;
+
+    fn pattern(self) -> u32 {
+        self as u32
+    }
+}
+
 impl Element for u16 {
     const BORDER: u16 = 0xb5b5;
 
@@ -214,7 +222,7 @@ pub fn kernel_undo(kernel: u8, word: u16) -> WordOutcome {
     outcome
 }
 
-pub fn kernel_follow(kernel: u8, values: &[i16], symbols: u16, scores: &mut [i16]) -> Outcome {
+pub fn kernel_follow(kernel: u8, values: &[i32], symbols: u16, scores: &mut [i32]) -> Outcome {
     let (mut y, mut out) = (Bordered::new(values), Bordered::new(scores));
     let outcome = library::kernel_follow(kernel, y.buffer(), symbols, out.buffer());
     let kept = [y.holds(values), out.hand_over(scores)];

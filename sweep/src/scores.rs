@@ -1,13 +1,16 @@
 //! Scores by the paper's definition, over all 65,536 words of a kernel.
 use crate::paper::{bit, Kernel};
 
+/// The limit of a kernel's channel values: they go from minus this to this.
+pub const LIMIT: i32 = 32767;
+
 /// Sixteen channel values.
-pub type Values = [i16; 16];
+pub type Values = [i32; 16];
 
 /// What a place with value y pays for a bit.
-pub fn pay(y: i16, bit: bool) -> i32 {
+pub fn pay(y: i32, bit: bool) -> i64 {
     if (y > 0 && bit) || (y < 0 && !bit) {
-        i32::from(y).abs()
+        i64::from(y).abs()
     } else {
         0
     }
@@ -17,11 +20,11 @@ pub fn pay(y: i16, bit: bool) -> i32 {
 pub fn totals(
     kernel: &Kernel,
     values: &Values,
-    pay: impl Fn(i16, bool) -> i32,
-    totals: &mut Vec<i32>,
+    pay: impl Fn(i32, bool) -> i64,
+    totals: &mut Vec<i64>,
 ) {
     // What eight places from `start` on pay for each byte of a word.
-    let bytes = |start: usize| -> Vec<i32> {
+    let bytes = |start: usize| -> Vec<i64> {
         (0..256u16)
             .map(|byte| {
                 (0..8)
@@ -41,13 +44,13 @@ pub fn totals(
 }
 
 /// The best score of some words: minus the least total.
-fn best_score(totals: &[i32]) -> i32 {
+fn best_score(totals: &[i64]) -> i64 {
     -totals.iter().copied().min().unwrap()
 }
 
 /// The score of a phase: the best score of the words that begin with the symbols before it and have 0 next, less that
 /// of those with 1 next. The words that begin with given symbols stand next to one another.
-pub fn score(totals: &[i32], symbols: u16, phase: usize) -> i32 {
+pub fn score(totals: &[i64], symbols: u16, phase: usize) -> i64 {
     let count = 65536 >> phase;
     let start = usize::from(symbols) / count * count;
     let (zero, one) = totals[start..start + count].split_at(count / 2);
@@ -55,12 +58,12 @@ pub fn score(totals: &[i32], symbols: u16, phase: usize) -> i32 {
 }
 
 /// The scores of all phases.
-pub fn scores(totals: &[i32], symbols: u16) -> [i32; 16] {
+pub fn scores(totals: &[i64], symbols: u16) -> [i64; 16] {
     std::array::from_fn(|phase| score(totals, symbols, phase))
 }
 
 /// The symbols of the best word, the lowest where several are best.
-pub fn best_symbols(totals: &[i32]) -> u16 {
+pub fn best_symbols(totals: &[i64]) -> u16 {
     let least = totals.iter().min().unwrap();
     totals.iter().position(|t| t == least).unwrap() as u16
 }

@@ -5,9 +5,9 @@ use crate::scores::{pay, score, scores, totals, Values};
 use crate::tally::Tally;
 
 /// Mistake: v9 taken as fixed at phase 7 of kernel 2, at the value of u6 = v6 + v9, whatever v6 is.
-fn v9_fixed(kernel: &Kernel, totals: &[i32], symbols: u16) -> i32 {
+fn v9_fixed(kernel: &Kernel, totals: &[i64], symbols: u16) -> i64 {
     let start = usize::from(symbols) / 1024 * 1024;
-    let best_score = |next: bool| -> i32 {
+    let best_score = |next: bool| -> i64 {
         (start..start + 1024)
             .filter(|&u| bit(u as u16, 7) == next && bit(kernel.vs[u], 9) == bit(symbols, 6))
             .map(|u| -totals[u])
@@ -18,7 +18,7 @@ fn v9_fixed(kernel: &Kernel, totals: &[i32], symbols: u16) -> i32 {
 }
 
 /// Mistake: the kept row of the symbol that was not chosen at the phase before.
-fn other_row(totals: &[i32], symbols: u16, phase: usize) -> i32 {
+fn other_row(totals: &[i64], symbols: u16, phase: usize) -> i64 {
     score(totals, symbols ^ (1 << (16 - phase)), phase)
 }
 
@@ -30,7 +30,7 @@ fn keeps_row(kernel: u8, phase: usize) -> bool {
 }
 
 /// Mistake: a zero value pays 1 for bit 1.
-fn pay_for_zero(y: i16, bit: bool) -> i32 {
+fn pay_for_zero(y: i32, bit: bool) -> i64 {
     if y == 0 && bit {
         1
     } else {
@@ -38,10 +38,22 @@ fn pay_for_zero(y: i16, bit: bool) -> i32 {
     }
 }
 
+/// Mistake: what a word pays, kept in sixteen bits.
+fn narrow_totals(totals: &[i64]) -> Vec<i64> {
+    totals.iter().map(|&t| i64::from(t as u16)).collect()
+}
+
+/// Mistake: a score written as sixteen bits.
+fn narrow_score(score: i64) -> i64 {
+    i64::from(score as i16)
+}
+
 enum Mistake {
     V9Fixed,
     OtherRow,
     ZeroPays,
+    NarrowTotals,
+    NarrowScore,
 }
 
 /// A case with its true score at a phase and the score by the mistake.
@@ -51,12 +63,12 @@ struct Named {
     values: Values,
     symbols: u16,
     phase: usize,
-    truth: i32,
-    mistaken: i32,
+    truth: i64,
+    mistaken: i64,
 }
 
 #[rustfmt::skip]
-const NAMED: [Named; 10] = [
+const NAMED: [Named; 13] = [
     Named { mistake: Mistake::V9Fixed, kernel: 2, values: [-1, 0, 0, 0, 0, 0, 0, -1, 0, 0, 0, 1, 1, 0, 0, 0], symbols: 0, phase: 7, truth: 0, mistaken: 1 },
     Named { mistake: Mistake::V9Fixed, kernel: 2, values: [2, 1, 0, 0, 2, 0, 0, 1, 1, -1, 0, 1, 0, 0, 0, 0], symbols: 0x0200, phase: 7, truth: 1, mistaken: -1 },
     Named { mistake: Mistake::OtherRow, kernel: 1, values: [0, -1, -1, 2, 0, 0, 0, 1, 0, 2, 0, 0, 0, 0, -1, 0], symbols: 0, phase: 7, truth: -1, mistaken: 1 },
@@ -67,6 +79,9 @@ const NAMED: [Named; 10] = [
     Named { mistake: Mistake::ZeroPays, kernel: 1, values: [0; 16], symbols: 0, phase: 9, truth: 0, mistaken: 6 },
     Named { mistake: Mistake::ZeroPays, kernel: 2, values: [0; 16], symbols: 0, phase: 8, truth: 0, mistaken: 6 },
     Named { mistake: Mistake::ZeroPays, kernel: 2, values: [0, 0, 0, 0, 0, 0, 0, 5, 0, 0, 0, 0, 0, 0, 0, 0], symbols: 0, phase: 15, truth: 5, mistaken: 20 },
+    Named { mistake: Mistake::NarrowTotals, kernel: 0, values: [32767; 16], symbols: 0, phase: 15, truth: 524_272, mistaken: 65_520 },
+    Named { mistake: Mistake::NarrowScore, kernel: 1, values: [32767; 16], symbols: 0, phase: 15, truth: 524_272, mistaken: -16 },
+    Named { mistake: Mistake::NarrowScore, kernel: 2, values: [2048; 16], symbols: 0, phase: 15, truth: 32_768, mistaken: -32_768 },
 ];
 
 pub fn named(tally: &mut Tally, kernels: &[Kernel]) {
@@ -87,10 +102,12 @@ pub fn named(tally: &mut Tally, kernels: &[Kernel]) {
             Mistake::V9Fixed => v9_fixed(tables, &paid, symbols),
             Mistake::OtherRow => other_row(&paid, symbols, phase),
             Mistake::ZeroPays => score(&mistaken_paid, symbols, phase),
+            Mistake::NarrowTotals => score(&narrow_totals(&paid), symbols, phase),
+            Mistake::NarrowScore => narrow_score(truth),
         };
-        let mut got = [i16::MIN; 16];
+        let mut got = [i32::MIN; 16];
         let outcome = kernel_follow(kernel, &values, symbols, &mut got);
-        let got = i32::from(got[phase]);
+        let got = i64::from(got[phase]);
         tally.expect(
             outcome.number == 0
                 && got == case.truth
@@ -141,7 +158,9 @@ pub struct Traps {
     other_row: [[Told; 16]; 3],
     /// By kernel.
     zero_pays: [Told; 3],
-    scratch: Vec<i32>,
+    narrow_totals: Told,
+    narrow_score: Told,
+    scratch: Vec<i64>,
 }
 
 impl Traps {
@@ -151,8 +170,8 @@ impl Traps {
         kernel: &Kernel,
         values: &Values,
         symbols: u16,
-        true_totals: &[i32],
-        true_scores: &[i32; 16],
+        true_totals: &[i64],
+        true_scores: &[i64; 16],
     ) {
         let k = usize::from(kernel.number);
         if kernel.number == 2 {
@@ -169,6 +188,10 @@ impl Traps {
             totals(kernel, values, pay_for_zero, &mut self.scratch);
             self.zero_pays[k].case(scores(&self.scratch, symbols) != *true_scores);
         }
+        let narrow = scores(&narrow_totals(true_totals), symbols);
+        self.narrow_totals.case(narrow != *true_scores);
+        self.narrow_score
+            .case(true_scores.map(narrow_score) != *true_scores);
     }
 
     pub fn report(&self, tally: &mut Tally) {
@@ -186,5 +209,9 @@ impl Traps {
         for (kernel, told) in self.zero_pays.iter().enumerate() {
             told.report(tally, &format!("a zero value that pays, kernel {kernel}"));
         }
+        self.narrow_totals
+            .report(tally, "what a word pays kept in sixteen bits");
+        self.narrow_score
+            .report(tally, "scores written as sixteen bits");
     }
 }

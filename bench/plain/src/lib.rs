@@ -4,7 +4,7 @@ mod tables;
 
 use tables::{Kernel, Phase, Source};
 
-/// A sum of costs: at most 16 × 2047.
+/// A sum of costs: at most 16 × 2032, and 2032 is 16 × 127.
 type Total = i16;
 
 /// What each of N places pays for bit 0 and for bit 1.

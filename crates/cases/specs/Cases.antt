@@ -52,15 +52,15 @@ Holds (quantising scale x value) =
     × (fits binary32 x ≡ true)
     × (valuesFromMarks scale (replicate 256 x) (replicate 16 0) (replicate 256 (pos 0)) ≡ (done, replicate 256 value))
 
--- 2048 at each of the sixteen places.
+-- 32768 at each of the sixteen places.
 abbrev pub outside : ℕ → List Case
-outside k = tabulate 16 (λ i. valueRefused k i (pos 2048) 6)
+outside k = tabulate 16 (λ i. valueRefused k i (pos 32768) 6)
 
 -- An amplitude and its value with scale 32.0, which is 1 * 2 ^ 5.
 abbrev pub at32 : Float → ℤ → Case
 at32 amplitude value = quantising (fin false 1 (pos 5)) amplitude value
 
--- The table: every case of every bullet of the paper that has a star. Where all values are 1, the scores are the partial distances.
+-- The table: every case of every bullet of the paper that has a star, with 2048 and 32768 as request E6 has them, and the greatest score. Where all values are 1, the scores are the partial distances.
 -- The amplitudes are 1.0, 0.015625, 0.046875, 3.96875, 4.0, -4.0 and minus zero, with scale 32.0.
 abbrev pub starred : List Case
 starred =
@@ -78,6 +78,12 @@ starred =
     ∷ followingLast 0 (pos 2047) (pos 32752)
     ∷ followingLast 1 (pos 2047) (pos 32752)
     ∷ followingLast 2 (pos 2047) (pos 32752)
+    ∷ followingLast 0 (pos 2048) (pos 32768)
+    ∷ followingLast 1 (pos 2048) (pos 32768)
+    ∷ followingLast 2 (pos 2048) (pos 32768)
+    ∷ followingLast 0 (pos 32767) (pos 524272)
+    ∷ followingLast 1 (pos 32767) (pos 524272)
+    ∷ followingLast 2 (pos 32767) (pos 524272)
     ∷ masking 1 (191 ∷ 223 ∷ 239 ∷ 250 ∷ 251 ∷ 253 ∷ 254 ∷ 255 ∷ [])
     ∷ sizeRefused 0 8
     ∷ sizeRefused 33 8

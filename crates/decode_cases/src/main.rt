@@ -136,6 +136,10 @@ fn penalties_kept(penalties: &[u16], from: usize) -> bool {
     true
 }
 
+fn say_score(x: i16) {
+    report::say_score(x as i32);
+}
+
 fn say_penalty(x: u16) {
     io::write_all(STDOUT_FILENO, b" ");
     io::print_decimal(STDOUT_FILENO, x as u64);
@@ -147,8 +151,8 @@ fn say(label: &[u8], a: Answer, scores: [i16; 260], penalties: [u16; 260]) {
     report::say_answer(label, a);
     if answer::accepted(a) {
         io::write_all(STDOUT_FILENO, b", scores");
-        report::say_score(scores[0]);
-        report::say_score(scores[255]);
+        say_score(scores[0]);
+        say_score(scores[255]);
         io::write_all(STDOUT_FILENO, b", penalties");
         say_penalty(penalties[0]);
         say_penalty(penalties[255]);

@@ -1,4 +1,4 @@
--- What the limit of a value has to satisfy, computed. All else that is said of it follows from these. Assumes nothing.
+-- What the limit of a value has to satisfy, computed. All that the engine asks of it follows from these. Assumes nothing.
 use Prim.Native.Nat.{_*_, _≤_}
 use native.Mathlib.Omega.{arith}
 use Rattle.folds.specs.Range.{valueLimit}
@@ -7,11 +7,6 @@ use Rattle.folds.specs.Range.{valueLimit}
 pub limit-room : 16 * valueLimit ≤ 16777216
 unfolding valueLimit
 limit-room = omega arith
-
--- they and the scores are numbers of sixteen bits,
-pub limit-narrow : 16 * valueLimit ≤ 32767
-unfolding valueLimit
-limit-narrow = omega arith
 
 -- and a score of sixteen values of a frame is a value.
 pub frame-inside : 16 * 127 ≤ valueLimit

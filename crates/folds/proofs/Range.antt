@@ -3,14 +3,14 @@ use mathlib.Core.Path.{_≡_, refl, sym, ap, ap₂, _∙_}
 use mathlib.Core.Bool.{Bool, true, false}
 use mathlib.Core.List.{List, [], _∷_, _++_}
 use Prim.Native.Nat.{ℕ, zero, suc, _+_, _≤_, _<_}
-use native.Mathlib.Nat.{zero-add}
+use native.Mathlib.Nat.{zero-add, le-trans}
 use native.Mathlib.Numerals.{add-one}
 use native.Mathlib.Decide.{decLt}
 use native.Mathlib.Omega.{arith}
 use borrow.Author.Tests.{leb-true, leb-false}
 use lib.Dec.{leb}
 use lib.IntN.{ℤ, pos, natAbs}
-use lib.ListN.{length, getD, take, drop, length-drop, take-append-drop}
+use lib.ListN.{length, getD, take, drop, length-drop, take-append-drop, List·getD-eq-default}
 use lib.Seq.{drop-cons, drop-length, drop-drop, length-take-le, getD-take, getD-drop, ext-getD}
 use Rattle.folds.specs.Range.{firstOutside}
 
@@ -58,9 +58,17 @@ outside-all limit ys h = go (decLt (firstOutside limit ys) (length ys))
     go (yes l) = absurd (omega (arith, outside-found limit ys l, h (firstOutside limit ys) l))
     go (no l) = omega (arith, outside-le limit ys)
 
--- Where no value is outside, every one is within the limit.
-pub outside-none : (limit : ℕ) (ys : List ℤ) → firstOutside limit ys ≡ length ys → (i : ℕ) → i < length ys → natAbs (getD ys i (pos 0)) ≤ limit
-outside-none limit ys e i l = outside-lowest limit ys i (omega arith)
+-- Where no value is outside, every one is within the limit, and so is the 0 past their end.
+pub outside-none : (limit : ℕ) (ys : List ℤ) → firstOutside limit ys ≡ length ys → (i : ℕ) → natAbs (getD ys i (pos 0)) ≤ limit
+outside-none limit ys e i = go (decLt i (length ys))
+  where
+    go : Dec (i < length ys) → natAbs (getD ys i (pos 0)) ≤ limit
+    go (yes l) = outside-lowest limit ys i (omega arith)
+    go (no l) = rw (List·getD-eq-default ys (pos 0) {n = i} (omega arith)) (omega arith)
+
+-- A wider limit leaves none outside either.
+pub outside-wider : (m n : ℕ) → m ≤ n → (ys : List ℤ) → firstOutside m ys ≡ length ys → firstOutside n ys ≡ length ys
+outside-wider m n l ys e = outside-all n ys (λ i _. le-trans (outside-none m ys e i) l)
 
 -- ---- the search
 

@@ -7,7 +7,7 @@ use lib.IntN.{ℤ, natAbs}
 
 -- The limit of a value: a kernel's channel values go from minus this to this.
 unfoldable pub valueLimit : ℕ
-valueLimit = 2047
+valueLimit = 32767
 
 -- The lowest index whose value lies outside -limit to limit, or the number of values where there is none.
 unfoldable pub firstOutside : ℕ → List ℤ → ℕ

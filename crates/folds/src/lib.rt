@@ -11,16 +11,16 @@ ghost use Rattle.polar.specs.Fold.{freeFold, knownFold};
 ghost use Rattle.folds.specs.Range.{valueLimit, firstOutside};
 ghost use Rattle.folds.specs.Rows.{costsOf, Within, IsGreatest, select, Pays};
 
-// The size of a value.
-fn size(y: i16) -> u32
+// The size of a number.
+pub fn size(y: i32) -> u32
     ensures { λ r. ⌜ r ≡ natAbs y ⌝ }
 {
-    let x = y as i32;
+    let x = y as i64;
     if x < 0 { (0 - x) as u32 } else { x as u32 }
 }
 
 // The lowest index whose value lies outside -limit to limit, or the number of values.
-pub fn first_outside(values: &[i16], limit: u32) -> usize
+pub fn first_outside(values: &[i32], limit: u32) -> usize
     ensures { λ r. ⌜ r ≡ firstOutside limit (now (values .entry)) ⌝ }
 {
     let mut i: usize = 0;
@@ -34,20 +34,20 @@ pub fn first_outside(values: &[i16], limit: u32) -> usize
 }
 
 // What each of sixteen channel values pays for bit 0 and for bit 1.
-pub fn cost_rows(values: &[i16]) -> [[u32; 16]; 2]
+pub fn cost_rows(values: &[i32]) -> [[u32; 16]; 2]
     requires { ⌜ length (now values) ≡ 16 ⌝ }
-    requires { ⌜ firstOutside valueLimit (now values) ≡ 16 ⌝ }
     ensures costs { λ r. ⌜ ((j : ℕ) (b : Bool) → j < 16 → costsOf r j b ≡ channel (now (values .entry)) j b) ⌝ }
     ensures within { λ r. ⌜ ((n : ℕ) → firstOutside n (now (values .entry)) ≡ 16 → Within n r) ⌝ }
 {
     let mut out = [[0u32; 16]; 2];
     let mut i: usize = 0;
     while i < 16 {
-        let y = values[i] as i32;
+        let y = values[i];
+        let paid = size(y);
         if y < 0 {
-            out[0][i] = (0 - y) as u32;
+            out[0][i] = paid;
         } else {
-            out[1][i] = y as u32;
+            out[1][i] = paid;
         }
         i += 1;
     }

@@ -3,7 +3,7 @@ ghost use Prim.Native.Nat.{_<_};
 use libc::STDOUT_FILENO;
 
 // What a buffer of twenty scores holds before a job.
-const BEFORE: [i16; 20] = [
+const BEFORE: [i32; 20] = [
     -901,
     -902,
     -903,
@@ -27,7 +27,7 @@ const BEFORE: [i16; 20] = [
 ];
 
 // The same of fifteen.
-const SHORT: [i16; 15] = [
+const SHORT: [i32; 15] = [
     -901,
     -902,
     -903,
@@ -46,34 +46,54 @@ const SHORT: [i16; 15] = [
 ];
 
 // Two offenders, at places 3 and 11.
-const HIGH_THEN_LOW: [i16; 16] = [0, 0, 0, 2048, 0, 0, 0, 0, 0, 0, 0, -2048, 0, 0, 0, 0];
+const HIGH_THEN_LOW: [i32; 16] = [0, 0, 0, 32768, 0, 0, 0, 0, 0, 0, 0, -32768, 0, 0, 0, 0];
 
 // The same two exchanged.
-const LOW_THEN_HIGH: [i16; 16] = [0, 0, 0, -2048, 0, 0, 0, 0, 0, 0, 0, 2048, 0, 0, 0, 0];
+const LOW_THEN_HIGH: [i32; 16] = [0, 0, 0, -32768, 0, 0, 0, 0, 0, 0, 0, 32768, 0, 0, 0, 0];
 
 // Fifteen values with an offender at place 3.
-const FEW_WITH_HIGH: [i16; 15] = [0, 0, 0, 2048, 0, 0, 0, 0, 0, 0, 0, 0, 0, 0, 0];
+const FEW_WITH_HIGH: [i32; 15] = [0, 0, 0, 32768, 0, 0, 0, 0, 0, 0, 0, 0, 0, 0, 0];
+
+// 32767 at some places and -32767 at others.
+const BOTH_ENDS: [i32; 16] = [
+    32767,
+    32767,
+    -32767,
+    32767,
+    32767,
+    32767,
+    32767,
+    -32767,
+    -32767,
+    32767,
+    32767,
+    32767,
+    -32767,
+    32767,
+    32767,
+    32767,
+];
 
 // With v9 fixed at phase 7 of kernel 2 the score there would be 1; with the row of the other symbol at phase 8, -1.
-const V9_FIXED: [i16; 16] = [-1, 0, 0, 0, 0, 0, 0, -1, 0, 0, 0, 1, 1, 0, 0, 0];
+const V9_FIXED: [i32; 16] = [-1, 0, 0, 0, 0, 0, 0, -1, 0, 0, 0, 1, 1, 0, 0, 0];
 
 // With v9 fixed at phase 7 of kernel 2, after u6 = 1, it would be -1.
-const V9_FIXED_U6: [i16; 16] = [2, 1, 0, 0, 2, 0, 0, 1, 1, -1, 0, 1, 0, 0, 0, 0];
+const V9_FIXED_U6: [i32; 16] = [2, 1, 0, 0, 2, 0, 0, 1, 1, -1, 0, 1, 0, 0, 0, 0];
 
 // With the row of the other symbol at phase 7 of kernel 1 it would be 1.
-const OTHER_ROW_1_7: [i16; 16] = [0, -1, -1, 2, 0, 0, 0, 1, 0, 2, 0, 0, 0, 0, -1, 0];
+const OTHER_ROW_1_7: [i32; 16] = [0, -1, -1, 2, 0, 0, 0, 1, 0, 2, 0, 0, 0, 0, -1, 0];
 
 // The same at phase 10 of kernel 1.
-const OTHER_ROW_1_10: [i16; 16] = [1, 0, 0, 0, 0, 0, 0, -1, 0, 0, -1, 0, 0, -1, 0, 0];
+const OTHER_ROW_1_10: [i32; 16] = [1, 0, 0, 0, 0, 0, 0, -1, 0, 0, -1, 0, 0, -1, 0, 0];
 
 // At phase 9 of kernel 2 it would be -1.
-const OTHER_ROW_2_9: [i16; 16] = [0, 0, 0, 0, 1, 0, 1, 0, 0, 0, 0, 0, 1, 0, 1, 0];
+const OTHER_ROW_2_9: [i32; 16] = [0, 0, 0, 0, 1, 0, 1, 0, 0, 0, 0, 0, 1, 0, 1, 0];
 
 // With a zero value that pays 1 for bit 1 the last score would be 20.
-const ZERO_PAYS: [i16; 16] = [0, 0, 0, 0, 0, 0, 0, 5, 0, 0, 0, 0, 0, 0, 0, 0];
+const ZERO_PAYS: [i32; 16] = [0, 0, 0, 0, 0, 0, 0, 5, 0, 0, 0, 0, 0, 0, 0, 0];
 
 // Whether two buffers are of one length and agree from an index on.
-fn same_from(a: &[i16], b: &[i16], from: usize) -> bool {
+fn same_from(a: &[i32], b: &[i32], from: usize) -> bool {
     if a.len() != b.len() {
         return false;
     }
@@ -88,7 +108,7 @@ fn same_from(a: &[i16], b: &[i16], from: usize) -> bool {
 }
 
 // A job that is refused, and whether its buffer of twenty is as before.
-fn refuse(label: &[u8], kernel: u8, values: &[i16]) {
+fn refuse(label: &[u8], kernel: u8, values: &[i32]) {
     let before = BEFORE;
     let mut scores = BEFORE;
     report::say_answer(label, follow::kernel_follow(kernel, values, 0, &mut scores));
@@ -96,7 +116,7 @@ fn refuse(label: &[u8], kernel: u8, values: &[i16]) {
 }
 
 // The same with a buffer of fifteen.
-fn refuse_short(label: &[u8], kernel: u8, values: &[i16]) {
+fn refuse_short(label: &[u8], kernel: u8, values: &[i32]) {
     let before = SHORT;
     let mut scores = SHORT;
     report::say_answer(label, follow::kernel_follow(kernel, values, 0, &mut scores));
@@ -104,12 +124,12 @@ fn refuse_short(label: &[u8], kernel: u8, values: &[i16]) {
 }
 
 // Whether a value at a place is refused as out of range, with that place and the buffer as before.
-fn is_named(kernel: u8, value: i16, place: usize) -> bool
+fn is_named(kernel: u8, value: i32, place: usize) -> bool
     requires { ⌜ place < 16 ⌝ }
 {
     let before = BEFORE;
     let mut scores = BEFORE;
-    let mut values = [0i16; 16];
+    let mut values = [0i32; 16];
     values[place] = value;
     let a = follow::kernel_follow(kernel, &values, 0, &mut scores);
     if answer::number(a) != 6 {
@@ -122,7 +142,7 @@ fn is_named(kernel: u8, value: i16, place: usize) -> bool
 }
 
 // At how many of the sixteen places it is.
-fn named(kernel: u8, value: i16) -> u64 {
+fn named(kernel: u8, value: i32) -> u64 {
     let mut n: u64 = 0;
     let mut i: usize = 0;
     while i < 16 {
@@ -134,7 +154,7 @@ fn named(kernel: u8, value: i16) -> u64 {
     n
 }
 
-fn outside(kernel: u8, value: i16) {
+fn outside(kernel: u8, value: i32) {
     io::write_all(STDOUT_FILENO, b"value");
     report::say_score(value);
     io::write_all(STDOUT_FILENO, b": 6 with its place and kept, at ");
@@ -143,8 +163,8 @@ fn outside(kernel: u8, value: i16) {
 }
 
 // The last score for symbols 0.
-fn last_score(label: &[u8], kernel: u8, values: [i16; 16]) {
-    let mut scores = [0i16; 16];
+fn last_score(label: &[u8], kernel: u8, values: [i32; 16]) {
+    let mut scores = [0i32; 16];
     report::say_answer(
         label,
         follow::kernel_follow(kernel, &values, 0, &mut scores),
@@ -154,7 +174,7 @@ fn last_score(label: &[u8], kernel: u8, values: [i16; 16]) {
     io::write_all(STDOUT_FILENO, b"\n");
 }
 
-fn say_scores(scores: [i16; 20]) {
+fn say_scores(scores: [i32; 20]) {
     let mut i: usize = 0;
     while i < 16 {
         report::say_score(scores[i]);
@@ -162,14 +182,13 @@ fn say_scores(scores: [i16; 20]) {
     }
 }
 
-// All values 1 and symbols 0, into a buffer of twenty: the scores, and whether what lies past them stays.
-fn distances_of(label: &[u8], kernel: u8) {
-    let values = [1i16; 16];
+// Into a buffer of twenty: the scores, and whether what lies past them stays.
+fn scores_of(label: &[u8], kernel: u8, values: [i32; 16], symbols: u16) {
     let before = BEFORE;
     let mut scores = BEFORE;
     report::say_answer(
         label,
-        follow::kernel_follow(kernel, &values, 0, &mut scores),
+        follow::kernel_follow(kernel, &values, symbols, &mut scores),
     );
     io::write_all(STDOUT_FILENO, b", scores");
     say_scores(scores);
@@ -177,10 +196,10 @@ fn distances_of(label: &[u8], kernel: u8) {
 }
 
 // The score of one phase.
-fn trap(label: &[u8], kernel: u8, values: [i16; 16], symbols: u16, phase: usize)
+fn trap(label: &[u8], kernel: u8, values: [i32; 16], symbols: u16, phase: usize)
     requires { ⌜ phase < 16 ⌝ }
 {
-    let mut scores = [0i16; 16];
+    let mut scores = [0i32; 16];
     report::say_answer(
         label,
         follow::kernel_follow(kernel, &values, symbols, &mut scores),
@@ -192,43 +211,58 @@ fn trap(label: &[u8], kernel: u8, values: [i16; 16], symbols: u16, phase: usize)
     io::write_all(STDOUT_FILENO, b"\n");
 }
 
-fn ends_of_range() {
-    last_score(b"kernel 0, all 2047", 0, [2047i16; 16]);
-    last_score(b"kernel 1, all 2047", 1, [2047i16; 16]);
-    last_score(b"kernel 2, all 2047", 2, [2047i16; 16]);
-    last_score(b"kernel 0, all -2047", 0, [-2047i16; 16]);
-    last_score(b"kernel 1, all -2047", 1, [-2047i16; 16]);
-    last_score(b"kernel 2, all -2047", 2, [-2047i16; 16]);
+// The last score where all values are the same, and symbols 0.
+fn same_values() {
+    last_score(b"kernel 0, all 2047", 0, [2047i32; 16]);
+    last_score(b"kernel 1, all 2047", 1, [2047i32; 16]);
+    last_score(b"kernel 2, all 2047", 2, [2047i32; 16]);
+    last_score(b"kernel 0, all 2048", 0, [2048i32; 16]);
+    last_score(b"kernel 1, all 2048", 1, [2048i32; 16]);
+    last_score(b"kernel 2, all 2048", 2, [2048i32; 16]);
+    last_score(b"kernel 0, all 32767", 0, [32767i32; 16]);
+    last_score(b"kernel 1, all 32767", 1, [32767i32; 16]);
+    last_score(b"kernel 2, all 32767", 2, [32767i32; 16]);
+    last_score(b"kernel 0, all -32767", 0, [-32767i32; 16]);
+    last_score(b"kernel 1, all -32767", 1, [-32767i32; 16]);
+    last_score(b"kernel 2, all -32767", 2, [-32767i32; 16]);
+}
+
+// All scores where some values are at the one end of the range and some at the other.
+fn both_ends() {
+    scores_of(b"kernel 0, both ends", 0, BOTH_ENDS, 0x5555);
+    scores_of(b"kernel 1, both ends", 1, BOTH_ENDS, 0x5555);
+    scores_of(b"kernel 2, both ends", 2, BOTH_ENDS, 0x5555);
 }
 
 fn distances() {
-    distances_of(b"kernel 0, all 1", 0);
-    distances_of(b"kernel 1, all 1", 1);
-    distances_of(b"kernel 2, all 1", 2);
+    scores_of(b"kernel 0, all 1", 0, [1i32; 16], 0);
+    scores_of(b"kernel 1, all 1", 1, [1i32; 16], 0);
+    scores_of(b"kernel 2, all 1", 2, [1i32; 16], 0);
 }
 
 fn refusals() {
-    let values = [1i16; 16];
+    let values = [1i32; 16];
     refuse(b"kernel 3", 3, &values);
     refuse(b"kernel 255", 255, &values);
-    let few = [1i16; 15];
+    let few = [1i32; 15];
     refuse(b"15 values", 0, &few);
-    let many = [1i16; 17];
+    let many = [1i32; 17];
     refuse(b"17 values", 0, &many);
     refuse_short(b"room 15", 0, &values);
-    outside(0, 2048);
-    outside(1, -2048);
-    outside(2, -32768);
+    outside(0, 32768);
+    outside(1, -32768);
+    outside(2, 2147483647);
+    outside(0, -2147483648);
     let high_then_low = HIGH_THEN_LOW;
-    refuse(b"2048 at 3, -2048 at 11", 0, &high_then_low);
+    refuse(b"32768 at 3, -32768 at 11", 0, &high_then_low);
     let low_then_high = LOW_THEN_HIGH;
-    refuse(b"-2048 at 3, 2048 at 11", 0, &low_then_high);
+    refuse(b"-32768 at 3, 32768 at 11", 0, &low_then_high);
 }
 
 // Two conditions at once: the first in checking order counts.
 fn two_conditions() {
-    let values = [1i16; 16];
-    let few = [1i16; 15];
+    let values = [1i32; 16];
+    let few = [1i32; 15];
     refuse(b"1 and 2", 3, &few);
     refuse_short(b"1 and 5", 3, &values);
     refuse_short(b"2 and 5", 0, &few);
@@ -251,14 +285,15 @@ fn traps() {
     trap(b"kernel 1, row of the symbol", 1, OTHER_ROW_1_10, 0, 10);
     trap(b"kernel 2, row of the symbol", 2, V9_FIXED, 0, 8);
     trap(b"kernel 2, row of the symbol", 2, OTHER_ROW_2_9, 0, 9);
-    trap(b"kernel 0, all 0", 0, [0i16; 16], 0, 15);
-    trap(b"kernel 1, all 0", 1, [0i16; 16], 0, 9);
-    trap(b"kernel 2, all 0", 2, [0i16; 16], 0, 8);
+    trap(b"kernel 0, all 0", 0, [0i32; 16], 0, 15);
+    trap(b"kernel 1, all 0", 1, [0i32; 16], 0, 9);
+    trap(b"kernel 2, all 0", 2, [0i32; 16], 0, 8);
     trap(b"kernel 2, 5 at 7", 2, ZERO_PAYS, 0, 15);
 }
 
 fn main() {
-    ends_of_range();
+    same_values();
+    both_ends();
     distances();
     refusals();
     two_conditions();

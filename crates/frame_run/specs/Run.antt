@@ -3,7 +3,7 @@ use mathlib.Core.Path.{_≡_}
 use mathlib.Core.Bool.{Bool}
 use mathlib.Core.List.{List, [], _++_}
 use Prim.Native.Nat.{ℕ, zero, suc, _≤_, _<_}
-use lib.IntN.{ℤ}
+use lib.IntN.{ℤ, pos, natAbs}
 use lib.ListN.{length, getD, drop}
 use Rattle.base.specs.Bit.{bit}
 use Rattle.bits.specs.Packed.{bits}
@@ -27,6 +27,14 @@ pub record Ready (a b : ℕ) (values : List ℤ) (scoreRoom penaltyRoom : ℕ) :
   pub inside : firstOutside 127 values ≡ 256
   pub score-room : 256 ≤ scoreRoom
   pub penalty-room : 256 ≤ penaltyRoom
+
+-- Sixteen scores that fit an i16, whose greatest number is 32767.
+abbrev pub NarrowScores : List ℤ → Type 0
+NarrowScores found = (i : ℕ) → i < 16 → natAbs (getD found i (pos 0)) ≤ 32767
+
+-- Sixteen penalties that fit a u16.
+abbrev pub NarrowPenalties : List ℕ → Type 0
+NarrowPenalties found = (i : ℕ) → i < 16 → getD found i 0 ≤ 65535
 
 -- What the run of a frame hands out over channel values: symbols by their sources, their scores and their penalties, before what
 -- the buffers held past these.

@@ -10,18 +10,18 @@ ghost use Rattle.polar.specs.Code.{channel};
 ghost use Rattle.folds.specs.Range.{firstOutside};
 ghost use Rattle.folds.specs.Rows.{Within};
 ghost use Rattle.layers.specs.Layers.{costsAt};
-ghost use Rattle.frame_run.specs.Run.{Ready, FrameRun};
+ghost use Rattle.frame_run.specs.Run.{Ready, NarrowScores, NarrowPenalties, FrameRun};
 use run::Run;
 
 // The values of outer kernel j.
-pub fn block_values(values: &[i8], j: usize) -> [i16; 16]
+pub fn block_values(values: &[i8], j: usize) -> [i32; 16]
     requires { ⌜ (length (now values) ≡ 256) × (j < 16) ⌝ }
     ensures { λ r. ⌜ ((t : ℕ) → t < 16 → getD r t (pos 0) ≡ getD (now (values .entry)) (16 * j + t) (pos 0)) ⌝ }
 {
-    let mut out = [0i16; 16];
+    let mut out = [0i32; 16];
     let mut t: usize = 0;
     while t < 16 {
-        out[t] = values[16 * j + t] as i16;
+        out[t] = values[16 * j + t] as i32;
         t += 1;
     }
     out
@@ -42,14 +42,26 @@ fn outer_costs(values: &[i8]) -> [[[u32; 16]; 2]; 16]
     out
 }
 
-// Writes sixteen penalties from a place on.
-fn store_penalties(found: [u16; 16], at: usize, out: &mut [u16])
-    requires { ⌜ at + 16 ≤ length (now out) ⌝ }
+// Writes sixteen scores, which fit sixteen bits, from a place on.
+fn store_narrow_scores(found: [i32; 16], at: usize, out: &mut [i16])
+    requires { ⌜ (at + 16 ≤ length (now out)) × NarrowScores found ⌝ }
     ensures { λ _. ⌜ now (out .exit) ≡ paste (now (out .entry)) at found 16 ⌝ }
 {
     let mut i: usize = 0;
     while i < 16 {
-        out[at + i] = found[i];
+        out[at + i] = found[i] as i16;
+        i += 1;
+    }
+}
+
+// Writes sixteen penalties, which fit sixteen bits, from a place on.
+fn store_narrow_penalties(found: [u32; 16], at: usize, out: &mut [u16])
+    requires { ⌜ (at + 16 ≤ length (now out)) × NarrowPenalties found ⌝ }
+    ensures { λ _. ⌜ now (out .exit) ≡ paste (now (out .entry)) at found 16 ⌝ }
+{
+    let mut i: usize = 0;
+    while i < 16 {
+        out[at + i] = found[i] as u16;
         i += 1;
     }
 }
@@ -57,12 +69,13 @@ fn store_penalties(found: [u16; 16], at: usize, out: &mut [u16])
 // Writes the scores and penalties of a kernel's run from a place on.
 fn store_run(found: Run, at: usize, scores: &mut [i16], penalties: &mut [u16])
     requires { ⌜ (at + 16 ≤ length (now scores)) × (at + 16 ≤ length (now penalties)) ⌝ }
+    requires { ⌜ NarrowScores (found .scores) × NarrowPenalties (found .penalties) ⌝ }
     ensures { λ _. ⌜ (now (scores .exit) ≡ paste (now (scores .entry)) at (found .scores) 16) × (now (penalties .exit) ≡ paste (now (penalties .entry)) at (found .penalties) 16) ⌝ }
 {
     let taken = found.scores;
-    run::store_scores(taken, at, scores);
+    store_narrow_scores(taken, at, scores);
     let paid = found.penalties;
-    store_penalties(paid, at, penalties);
+    store_narrow_penalties(paid, at, penalties);
 }
 
 // The run of a frame: at each row the outer kernels' scores are the inner kernel's values, and the word of its symbols goes
@@ -98,7 +111,7 @@ pub fn frame_run(
         let found = layers::outer_scores(&rows, step::path_count(shape, r));
         let row = run::kernel_run(inner, &shapes, &tables, &found, free[r], given[r], penalty);
         store_run(row, r * 16, scores, penalties);
-        penalty = row.penalties[15] as u32;
+        penalty = row.penalties[15];
         symbols[r] = row.symbols;
         word = kernel::row_sum(matrix, row.symbols);
         let longer = layers::next_columns(columns, word, r);

@@ -50,15 +50,15 @@ pub fn outer_rows(
 }
 
 // The scores of all outer kernels at a phase with n paths: the values of the inner kernel.
-pub fn outer_scores(rows: &[[[i32; 16]; 2]; 16], n: usize) -> [i16; 16]
+pub fn outer_scores(rows: &[[[i32; 16]; 2]; 16], n: usize) -> [i32; 16]
     requires { ⌜ (0 < n) × (n ≤ 16) ⌝ }
-    requires { ⌜ ((j : ℕ) → j < 16 → (w : ℕ) (b : Bool) → w < n → natAbs (cell (pos 0) (getD (now rows) j []) w b) ≤ 2032) ⌝ }
+    requires { ⌜ ((j : ℕ) → j < 16 → (w : ℕ) (b : Bool) → w < n → natAbs (cell (pos 0) (getD (now rows) j []) w b) ≤ 16777216) ⌝ }
     ensures { λ r. ⌜ ((j : ℕ) → j < 16 → IsDifference (getD (now (rows .entry)) j []) n (getD r j (pos 0))) ⌝ }
 {
-    let mut out = [0i16; 16];
+    let mut out = [0i32; 16];
     let mut j: usize = 0;
     while j < 16 {
-        out[j] = step::difference(&rows[j], n) as i16;
+        out[j] = step::difference(&rows[j], n);
         j += 1;
     }
     out

@@ -115,9 +115,9 @@ pub extern "C" fn nospridda_information_mask(p: usize, mask: &mut [u8]) -> Outco
 #[no_mangle]
 pub extern "C" fn nospridda_kernel_follow(
     kernel: u8,
-    values: &[i16],
+    values: &[i32],
     symbols: u16,
-    scores: &mut [i16],
+    scores: &mut [i32],
 ) -> Outcome
     ensures { λ r. ⌜ outcomeWith (kernelFollow kernel (now (values .entry)) symbols (now (scores .entry))) ≡ (r, now (scores .exit)) ⌝ }
 {

@@ -43,7 +43,7 @@ fn values_kept(values: &[i8], from: usize) -> bool {
 }
 
 fn say_value(x: i8) {
-    report::say_score(x as i16);
+    report::say_score(x as i32);
 }
 
 // The values of marks 0, 1 and 127.

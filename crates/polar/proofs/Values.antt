@@ -1,4 +1,4 @@
--- Costs as channel values: the layer theorem in scores alone, and the running penalty. Assumes nothing.
+-- Costs as channel values: the layer theorem in scores alone, the running penalty, and how far scores go. Assumes nothing.
 use mathlib.Core.Path.{_≡_, sym, ap, ap₂, _∙_, fun-ext}
 use mathlib.Core.Bool.{Bool, true, false}
 use mathlib.Core.List.{List, [], _∷_, _++_, append-assoc, append-nil}

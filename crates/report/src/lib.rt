@@ -47,18 +47,12 @@ pub fn same_from(a: &[u8], b: &[u8], from: usize) -> bool {
     true
 }
 
-// How far a number lies from 0.
-fn size(x: i16) -> u32 {
-    let y = x as i32;
-    if y < 0 { (0 - y) as u32 } else { y as u32 }
-}
-
 // A number with its sign, after a space.
-pub fn say_score(x: i16) {
+pub fn say_score(x: i32) {
     if x < 0 {
         io::write_all(STDOUT_FILENO, b" -");
     } else {
         io::write_all(STDOUT_FILENO, b" ");
     }
-    io::print_decimal(STDOUT_FILENO, size(x) as u64);
+    io::print_decimal(STDOUT_FILENO, folds::size(x) as u64);
 }

@@ -1,10 +1,8 @@
 // One run of a kernel: its sixteen phases in order, each symbol given or free.
 ghost use mathlib.Core.Path.{_≡_};
 ghost use mathlib.Core.List.{[]};
-ghost use Prim.Native.Nat.{_+_, _≤_, _<_};
-ghost use lib.IntN.{natAbs};
+ghost use Prim.Native.Nat.{_≤_, _<_};
 ghost use lib.ListN.{length, getD};
-ghost use lib.Seq.{paste};
 ghost use Rattle.base.specs.Bit;
 ghost use Rattle.bits.specs.Packed.{bits};
 ghost use Rattle.polar.specs.Code.{pay};
@@ -22,13 +20,13 @@ pub fn with_bit(x: u16, i: usize, b: bool) -> u16
 
 // What a score pays for a symbol.
 fn paid(score: i32, symbol: bool) -> u32
-    requires { ⌜ natAbs score ≤ 16777216 ⌝ }
     ensures { λ r. ⌜ r ≡ pay score symbol ⌝ }
 {
+    let owed = folds::size(score);
     if score < 0 {
-        if symbol { 0 } else { (0 - score) as u32 }
+        if symbol { 0 } else { owed }
     } else {
-        if symbol { score as u32 } else { 0 }
+        if symbol { owed } else { 0 }
     }
 }
 
@@ -47,30 +45,30 @@ fn symbol_of(free: u16, given: u16, i: usize, score: i32) -> bool
 // The symbols, scores and penalties of a run.
 pub struct Run {
     pub symbols: u16,
-    pub scores: [i16; 16],
-    pub penalties: [u16; 16],
+    pub scores: [i32; 16],
+    pub penalties: [u32; 16],
 }
 
 // A kernel's run over sixteen channel values: at each phase the two rows of best scores, their difference as the score, the
-// symbol by its source, and what it pays, counted on from start.
+// symbol by its source, and what it pays, counted on from start, which leaves room for sixteen payments.
 pub fn kernel_run(
     kernel: usize,
     shapes: &[[u8; 2]; 16],
     tables: &[[u16; 16]; 16],
-    values: &[i16],
+    values: &[i32],
     free: u16,
     given: u16,
     start: u32,
 ) -> Run
-    requires { ⌜ (kernel < 3) × (start ≤ 32512) ⌝ }
+    requires { ⌜ (kernel < 3) × (start ≤ 16777216) ⌝ }
     requires { ⌜ (now shapes ≡ getD shapeTable kernel []) × (now tables ≡ getD pathTable kernel []) ⌝ }
     requires { ⌜ (length (now values) ≡ 16) × (firstOutside valueLimit (now values) ≡ 16) ⌝ }
     ensures { λ r. ⌜ KernelRun kernel (now (values .entry)) free given start (r .symbols) (r .scores) (r .penalties) ⌝ }
 {
     let costs = folds::cost_rows(values);
     let mut symbols: u16 = 0;
-    let mut scores = [0i16; 16];
-    let mut penalties = [0u16; 16];
+    let mut scores = [0i32; 16];
+    let mut penalties = [0u32; 16];
     let mut rows = [[0i32; 16]; 2];
     let mut own = false;
     let mut penalty = start;
@@ -81,8 +79,8 @@ pub fn kernel_run(
         let score = step::difference(&next, step::path_count(shape, s));
         own = symbol_of(free, given, s, score);
         penalty += paid(score, own);
-        scores[s] = score as i16;
-        penalties[s] = penalty as u16;
+        scores[s] = score;
+        penalties[s] = penalty;
         symbols = with_bit(symbols, s, own);
         rows = next;
         s += 1;
@@ -91,17 +89,5 @@ pub fn kernel_run(
         symbols,
         scores,
         penalties,
-    }
-}
-
-// Writes sixteen scores from a place on.
-pub fn store_scores(found: [i16; 16], at: usize, out: &mut [i16])
-    requires { ⌜ at + 16 ≤ length (now out) ⌝ }
-    ensures { λ _. ⌜ now (out .exit) ≡ paste (now (out .entry)) at found 16 ⌝ }
-{
-    let mut i: usize = 0;
-    while i < 16 {
-        out[at + i] = found[i];
-        i += 1;
     }
 }

@@ -64,10 +64,3 @@ module _ (rows : List (List ℤ)) (n : ℕ) (h : (w : ℕ) (b : Bool) → w < n 
       let p = zero-small x gx in
       let q = one-small y gy in
       record { zero = x; one = y; zero-greatest = gx; one-greatest = gy; less = toZ-ofZ (less-fits x y p q) ∙ less-is x y p q }
-
--- The difference of rows whose entries are small is small.
-pub difference-small : (rows : List (List ℤ)) (n m : ℕ) → ((w : ℕ) (b : Bool) → w < n → natAbs (cell (pos 0) rows w b) ≤ m) → (d : ℤ) → IsDifference rows n d → mag d ≤ m + m
-difference-small rows n m h d i =
-    rw (i .less) (less-mag m (i .zero) (i .one)
-    (greatest-small m (getD rows 0 []) n (i .zero) (λ w. h w false) (i .zero-greatest))
-    (greatest-small m (getD rows 1 []) n (i .one) (λ w. h w true) (i .one-greatest)))

@@ -2,32 +2,26 @@
 use mathlib.Core.Path.{_≡_, refl, ap}
 use mathlib.Core.Bool.{Bool, true, false}
 use mathlib.Core.List.{List, []}
-use Prim.Native.Nat.{ℕ, zero, suc, _-_, _*_, _^_, _≤_, _<_}
+use Prim.Native.Nat.{ℕ, zero, suc, _-_, _^_, _≤_, _<_}
 use native.Mathlib.Nat.{le-trans, pow-succ'}
 use native.Mathlib.Omega.{arith}
-use lib.IntN.{ℤ, pos, negsuc, natAbs}
+use lib.IntN.{ℤ, pos, natAbs}
 use lib.ListN.{length, take, getD}
 use lib.Seq.{length-take-le}
-use mir.Syntax.{w16}
-use mir.Val.{SFits, boolByte}
+use mir.Val.{boolByte}
 use Rattle.base.specs.Bit.{digit}
 use Rattle.bits.specs.Packed.{bits}
 use Rattle.bits.proofs.Packed.{length-bits}
 use Rattle.polar.specs.Code.{score}
-use Rattle.polar.proofs.Values.{score-bound}
 use Rattle.folds.specs.Range.{valueLimit}
 use Rattle.folds.specs.Rows.{cell, costsOf, Within}
-use Rattle.folds.proofs.Limit.{limit-room, limit-narrow}
+use Rattle.folds.proofs.Limit.{limit-room}
 use Rattle.kernel.specs.Kernels.{kernelCode}
 use Rattle.windows.specs.Tables.{shapeTable, shapeAt}
 use Rattle.windows.specs.Paths.{Held, IsDifference}
 use Rattle.windows.proofs.Words.{pow-le}
 use Rattle.windows.proofs.Steps.{held-score, held-bound}
 use Rattle.windows.proofs.Stepping.{in-range}
-
-small-fits : (z : ℤ) → natAbs z ≤ 16 * valueLimit → SFits w16 z
-small-fits (pos y) h = record { sfits = omega (arith, limit-narrow) }
-small-fits (negsuc y) h = record { sfits = omega (arith, limit-narrow) }
 
 one-le : (d : ℕ) → 0 < 2 ^ d
 one-le zero = omega arith
@@ -53,7 +47,7 @@ module _ (k : ℕ) (lk : k < 3) (costs : List (List ℕ)) (most : Within valueLi
   abbrev pub paths : ℕ
   paths = 2 ^ (getD (getD shapes s []) 0 0 - s)
 
-  pub paths-is : paths ≡ 2 ^ (shapeAt k s 0 - s)
+  paths-is : paths ≡ 2 ^ (shapeAt k s 0 - s)
   paths-is = ap (λ l. 2 ^ (getD l 0 0 - s)) shape-is
 
   sized : length (take s (bits 16 symbols)) ≡ s
@@ -68,7 +62,3 @@ module _ (k : ℕ) (lk : k < 3) (costs : List (List ℕ)) (most : Within valueLi
 
     pub difference-is : (r : ℤ) → IsDifference rows n r → r ≡ score (kernelCode k) (costsOf costs) (take s (bits 16 symbols))
     difference-is r l = held-score k s lk ls (costsOf costs) (take s (bits 16 symbols)) sized rows h r (rw (en, paths-is) at l)
-
-  -- A score fits sixteen bits.
-  pub score-fits : (r : ℤ) → r ≡ score (kernelCode k) (costsOf costs) (take s (bits 16 symbols)) → SFits w16 r
-  score-fits r e = small-fits r (rw e (score-bound (kernelCode k) (costsOf costs) valueLimit most (take s (bits 16 symbols))))

@@ -1,14 +1,14 @@
 -- `folds::cost_rows` meets its contract. The rows are filled with the costs of the channel values below place i. Assumes nothing.
-use mathlib.Core.Path.{_≡_, sym, _∙_}
+use mathlib.Core.Path.{_≡_, sym, ap, _∙_}
 use mathlib.Core.Bool.{true, false}
 use mathlib.Core.Logic.{⊎-elim}
 use Prim.Native.Nat.{_-_, _≤_}
 use borrow.Author.Needs.{needs}
-use lib.IntN.{pos}
+use lib.IntN.{pos, natAbs}
 use lib.ListN.{getD}
 use Rattle.polar.specs.Code.{channel}
 use Rattle.folds.proofs.Fill.{Filled, filled-none, fill-one, filled-within}
-use Rattle.folds.proofs.Signs.{wide-fits, neg-fits, neg-cast, neg-cost, pos-cast, pos-cost, channel-le}
+use Rattle.folds.proofs.Signs.{read-is, neg-pays, pos-pays, channel-most}
 use Rattle.folds.proofs.cost_rows.Statement.{statement}
 use Rattle.folds.proofs.cost_rows.Tie as tie
 
@@ -27,14 +27,8 @@ mul-y c = search needs
 shared-slice-copy-out-y : tie.Need-shared-slice-copy-out-y Inv-loop μ-loop
 shared-slice-copy-out-y c = search needs
 
-cast-y : tie.Need-cast-y Inv-loop μ-loop
-cast-y c = wide-fits (getD (c .before .before .before .args .values .now) (c .before .before .loop .i) (pos 0)) (c .y .given)
-
-sub-out : tie.Need-sub-out Inv-loop μ-loop
-sub-out c = neg-fits (getD (c .before .before .before .before .args .values .now) (c .before .before .before .loop .i) (pos 0)) (c .before .y .given)
-
-cast-out : tie.Need-cast-out Inv-loop μ-loop
-cast-out c = neg-cast (getD (c .before .before .before .before .args .values .now) (c .before .before .before .loop .i) (pos 0)) (c .before .y .given) (c .if1 .taken)
+size-requires : tie.Need-size-requires Inv-loop μ-loop
+size-requires c κs = search needs
 
 mul-out : tie.Need-mul-out Inv-loop μ-loop
 mul-out c = search needs
@@ -44,9 +38,6 @@ index-1-out c = search needs
 
 index-2-out : tie.Need-index-2-out Inv-loop μ-loop
 index-2-out c = search needs
-
-cast-out-2 : tie.Need-cast-out-2 Inv-loop μ-loop
-cast-out-2 c = pos-cast (getD (c .before .before .before .before .args .values .now) (c .before .before .before .loop .i) (pos 0)) (c .before .y .given) (c .if1 .left)
 
 mul-out-2 : tie.Need-mul-out-2 Inv-loop μ-loop
 mul-out-2 c = search needs
@@ -65,13 +56,16 @@ loop-less c = search needs
 
 loop-again : tie.Need-loop-again Inv-loop μ-loop
 loop-again c =
-    let k = c .before .before .before .loop in
-    let y = getD (c .before .before .before .before .args .values .now) (k .i) (pos 0) in
+    let z = c .before .before .before .before in
+    let k = z .loop in
+    let y = getD (z .before .args .values .now) (k .i) (pos 0) in
+    let r = read-is y (c .before .before .y .given) in
+    let e = c .before .size .ensures ∙ ap natAbs r in
     ⊎-elim
-    (λ w. let p = neg-cost y (c .before .y .given) (w .0 .taken) in
-    (search needs, rw (w .1) (fill-one 0 16 (k .i) _ (k .out) (k .inv .1) false _ (search needs) (p .0) (p .1))))
-    (λ w. let p = pos-cost y (c .before .y .given) (w .0 .left) in
-    (search needs, rw (w .1) (fill-one 0 16 (k .i) _ (k .out) (k .inv .1) true _ (search needs) (p .0) (p .1))))
+    (λ w. let p = neg-pays y (rw r at (w .0 .taken)) in
+    (search needs, rw (w .1) (fill-one 0 16 (k .i) _ (k .out) (k .inv .1) false _ (search needs) (e ∙ p .0) (p .1))))
+    (λ w. let p = pos-pays y (rw r at (w .0 .left)) in
+    (search needs, rw (w .1) (fill-one 0 16 (k .i) _ (k .out) (k .inv .1) true _ (search needs) (e ∙ p .0) (p .1))))
     (c .if1 .came)
 
 returns : tie.Need-returns Inv-loop μ-loop
@@ -80,7 +74,7 @@ returns c =
     let e : c .before .loop .i ≡ 16 = search needs in
     let p = c .before .before .pre in
     let f = rw e at (c .before .loop .inv .1) in
-    (f .done, λ n h. filled-within 16 16 _ _ f n (λ j b l. channel-le n ys (h ∙ sym (p .0)) j b (rw (p .0) l)))
+    (f .done, λ n h. filled-within 16 16 _ _ f n (λ j b _. channel-most n ys (h ∙ sym p) j b))
 
 pub cost-rows-spec : {M : Type 1} → statement M
 cost-rows-spec =
@@ -91,13 +85,10 @@ cost-rows-spec =
     loop-holds
     mul-y
     shared-slice-copy-out-y
-    cast-y
-    sub-out
-    cast-out
+    size-requires
     mul-out
     index-1-out
     index-2-out
-    cast-out-2
     mul-out-2
     index-1-out-2
     index-2-out-2

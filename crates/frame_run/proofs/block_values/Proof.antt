@@ -5,7 +5,7 @@ use native.Mathlib.Omega.{arith}
 use lib.IntN.{ℤ, pos}
 use lib.ListN.{length, getD}
 use mir.Facts.{toZ-ofZ, sfits-widen}
-use mir.Syntax.{w8, w16}
+use mir.Syntax.{w8, w32}
 use mir.Val.{SFits, toZ, ofZ}
 use Rattle.base.proofs.List.{each-next}
 use borrow.Author.Needs.{needs, sfits-of}
@@ -13,10 +13,10 @@ use Rattle.frame_run.proofs.block_values.Statement.{statement}
 use Rattle.frame_run.proofs.block_values.Tie as tie
 
 -- A value of eight bits, widened, is the value.
-wide-fits : (y : ℤ) → SFits w8 y → SFits w16 (toZ w8 (ofZ w8 y))
+wide-fits : (y : ℤ) → SFits w8 y → SFits w32 (toZ w8 (ofZ w8 y))
 wide-fits y f = rw (toZ-ofZ f) (sfits-widen tt f)
 
-wide-is : (y : ℤ) → SFits w8 y → toZ w16 (ofZ w16 (toZ w8 (ofZ w8 y))) ≡ y
+wide-is : (y : ℤ) → SFits w8 y → toZ w32 (ofZ w32 (toZ w8 (ofZ w8 y))) ≡ y
 wide-is y f = toZ-ofZ (wide-fits y f) ∙ toZ-ofZ f
 
 abbrev Inv-loop : tie.InvT-loop

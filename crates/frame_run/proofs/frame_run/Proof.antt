@@ -2,20 +2,21 @@
 -- are written. Assumes nothing.
 use mathlib.Core.Path.{_≡_, refl, sym, ap, _∙_}
 use mathlib.Core.List.{List, []}
-use Prim.Native.Nat.{ℕ, _+_, _-_, _*_, _<_}
+use Prim.Native.Nat.{ℕ, _+_, _-_, _*_, _≤_, _<_}
 use native.Mathlib.Omega.{arith}
 use lib.ListN.{length, getD}
-use mir.Val.{Fits}
-use mir.Syntax.{w16}
 use Rattle.base.specs.Bit.{bit}
 use Rattle.bits.specs.Packed.{bits}
+use Rattle.folds.specs.Range.{valueLimit, firstOutside}
+use Rattle.folds.proofs.Limit.{frame-inside}
+use Rattle.folds.proofs.Range.{outside-wider}
 use Rattle.kernel.specs.Rows.{rowSum}
 use Rattle.grid.specs.Grid.{rowsBits}
 use Rattle.grid.proofs.Grid.{rows-bits-at}
 use Rattle.windows.proofs.Stepping.{in-range}
 use Rattle.frame_run.specs.Run.{front}
 use Rattle.frame_run.proofs.Rows.{AfterRows, no-row, row-turn, all-rows, zeros-at}
-use Rattle.frame_run.proofs.Premises.{word-of, penalty-small, outer-score, outer-asks, found-inside}
+use Rattle.frame_run.proofs.Premises.{word-of, penalty-small, outer-score, outer-asks, found-small, narrow-scores, narrow-penalties}
 use borrow.Author.Needs.{needs}
 use Rattle.frame_run.proofs.frame_run.Statement.{statement}
 use Rattle.frame_run.proofs.frame_run.Tie as tie
@@ -101,18 +102,33 @@ mul-kernel-run-2 c = search needs
 array-read-kernel-run-2 : tie.Need-array-read-kernel-run-2 Inv-loop μ-loop
 array-read-kernel-run-2 c = search needs
 
+-- The values of the inner kernel are small,
+small-values : (c : tie.After-outer-scores Inv-loop μ-loop) → firstOutside (16 * 127) (c .outer-scores .result) ≡ length (c .outer-scores .result)
+small-values c =
+    let q = c .before .before .before .before .before .before .before .before in
+    let z = q .before .before .before .before .before .before .before .before in
+    let h = c .before .before .before .outer-rows in
+    let n = c .before .path-count in
+    let f = c .outer-scores in
+    found-small (z .args .outer) (z .pre .outer) (q .before .outer-costs .result) (q .before .outer-costs .ensures .1) (q .loop .columns) _ (q .before .before .before .before .shapes-of2 .ensures) (q .loop .r) (c .before .before .before .before .before .before .before .loop-test .taken) (h .result) (h .ensures) (n .result) (n .ensures) (f .result) (search needs) (f .ensures)
+
+-- and so is the penalty of the rows so far.
+small-penalty : (c : tie.After-outer-scores Inv-loop μ-loop) → (let q = c .before .before .before .before .before .before .before .before in q .loop .penalty ≤ 256 * 127)
+small-penalty c =
+    let q = c .before .before .before .before .before .before .before .before in
+    let z = q .before .before .before .before .before .before .before .before in
+    omega (arith, q .loop .inv .0 .penalty-so, penalty-small (z .args .inner) (z .args .outer) (z .args .values .now) (z .pre .inside ∙ sym (z .pre .count)) (front (q .loop .r) (q .loop .symbols)))
+
 kernel-run-requires : tie.Need-kernel-run-requires Inv-loop μ-loop
 kernel-run-requires c κs =
     let q = c .before .before .before .before .before .before .before .before .before .before .before in
     let z = q .before .before .before .before .before .before .before .before in
-    let h = c .before .before .before .before .before .before .outer-rows in
-    let n = c .before .before .before .before .path-count in
     let f = c .before .before .before .outer-scores in
     let long : length (f .result) ≡ 16 = search needs in (
-      (z .pre .inner, omega (arith, q .loop .inv .0 .penalty-so, penalty-small (z .args .inner) (z .args .outer) (z .args .values .now) (z .pre .inside ∙ sym (z .pre .count)) (front (q .loop .r) (q .loop .symbols)))),
+      (z .pre .inner, omega (arith, small-penalty (c .before .before .before))),
       (
         (q .before .before .before .before .before .before .shapes-of .ensures, q .before .before .before .before .before .tables-of .ensures),
-        (long, found-inside (z .args .outer) (z .pre .outer) (q .before .outer-costs .result) (q .before .outer-costs .ensures .1) (q .loop .columns) _ (q .before .before .before .before .shapes-of2 .ensures) (q .loop .r) (c .before .before .before .before .before .before .before .before .before .before .loop-test .taken) (h .result) (h .ensures) (n .result) (n .ensures) (f .result) long (f .ensures)),
+        (long, outside-wider (16 * 127) valueLimit frame-inside (f .result) (small-values (c .before .before .before)) ∙ long),
       ),
     )
 
@@ -128,15 +144,18 @@ store-run-requires c κs =
     let q = c .before .before .before .before .before .before .before .before .before .before .before .before .before .before in
     let z = q .before .before .before .before .before .before .before .before in
     let t = c .before .before .before .before .before .before .before .before .before .before .before .before .before .loop-test .taken in
-    (omega (arith, q .loop .inv .1, z .pre .score-room, t), omega (arith, q .loop .inv .2, z .pre .penalty-room, t))
+    let row = c .before .before .kernel-run in
+    let f = c .before .before .before .before .before .before in
+    let found = f .outer-scores .result in (
+      (omega (arith, q .loop .inv .1, z .pre .score-room, t), omega (arith, q .loop .inv .2, z .pre .penalty-room, t)),
+      (
+        narrow-scores (z .args .inner) found (small-values f) _ _ _ _ _ _ (row .ensures),
+        narrow-penalties (z .args .inner) found (small-values f) _ _ _ _ _ _ (row .ensures) (small-penalty f),
+      ),
+    )
 
 element-copy-out-penalty : tie.Need-element-copy-out-penalty Inv-loop μ-loop
 element-copy-out-penalty c = search needs
-
-cast-penalty : tie.Need-cast-penalty Inv-loop μ-loop
-cast-penalty c =
-    let f : Fits w16 (getD (c .before .before .before .before .before .before .before .kernel-run .result .penalties) 15 0) = search needs in
-    omega (arith, f .fits)
 
 mul-symbols : tie.Need-mul-symbols Inv-loop μ-loop
 mul-symbols c = search needs
@@ -226,7 +245,6 @@ frame-run-spec =
     mul-store-run
     store-run-requires
     element-copy-out-penalty
-    cast-penalty
     mul-symbols
     array-write-symbols
     row-sum-requires

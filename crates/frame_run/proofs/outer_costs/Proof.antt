@@ -9,8 +9,7 @@ use lib.ListN.{length, getD}
 use Rattle.base.proofs.List.{each-next}
 use Rattle.polar.specs.Code.{pay, channel}
 use Rattle.folds.specs.Rows.{costsOf, Within}
-use Rattle.folds.specs.Range.{valueLimit, firstOutside}
-use Rattle.folds.proofs.Limit.{frame-inside}
+use Rattle.folds.specs.Range.{firstOutside}
 use Rattle.folds.proofs.Range.{outside-all, outside-none}
 use borrow.Author.Needs.{needs}
 use Rattle.frame_run.proofs.outer_costs.Statement.{statement}
@@ -21,10 +20,10 @@ abbrev Made : List ℤ → ℕ → List (List ℕ) → Type 0
 Made values j x = ((t : ℕ) (c : Bool) → t < 16 → costsOf x t c ≡ channel values (16 * j + t) c) × Within 127 x
 
 -- A block of values in range is in range.
-inside : (values ys : List ℤ) (j n : ℕ) → length values ≡ 256 → firstOutside 127 values ≡ 256 → j < 16 → length ys ≡ 16 → 127 ≤ n
-    → ((t : ℕ) → t < 16 → getD ys t (pos 0) ≡ getD values (16 * j + t) (pos 0)) → firstOutside n ys ≡ 16
-inside values ys j n lv e lj ly ln h =
-    outside-all n ys (λ i l. rw (h i (omega arith)) (omega (arith, outside-none 127 values (e ∙ sym lv) (16 * j + i) (omega arith)))) ∙ ly
+inside : (values ys : List ℤ) (j : ℕ) → length values ≡ 256 → firstOutside 127 values ≡ 256 → length ys ≡ 16
+    → ((t : ℕ) → t < 16 → getD ys t (pos 0) ≡ getD values (16 * j + t) (pos 0)) → firstOutside 127 ys ≡ 16
+inside values ys j lv e ly h =
+    outside-all 127 ys (λ i l. rw (h i (omega arith)) (outside-none 127 values (e ∙ sym lv) (16 * j + i))) ∙ ly
 
 abbrev Inv-loop : tie.InvT-loop
 Inv-loop values out₀ j₀ out j = (j ≤ 16) × (length out ≡ 16) × ((i : ℕ) → i < j → Made values i (getD out i []))
@@ -42,10 +41,7 @@ slice-aggregate-cost-rows : tie.Need-slice-aggregate-cost-rows Inv-loop μ-loop
 slice-aggregate-cost-rows c = search needs
 
 cost-rows-requires : tie.Need-cost-rows-requires Inv-loop μ-loop
-cost-rows-requires c κs =
-    let z = c .before .before .before .before in
-    let n : length (c .before .block-values .result) ≡ 16 = search needs in
-    (n, inside (z .args .values .now) _ (c .before .before .before .loop .j) valueLimit (z .pre .0) (z .pre .1) (search needs) n (omega (arith, frame-inside)) (c .before .block-values .ensures))
+cost-rows-requires c κs = search needs
 
 mul-out : tie.Need-mul-out Inv-loop μ-loop
 mul-out c = search needs
@@ -69,7 +65,7 @@ loop-again c =
       search needs,
       search needs,
       each-next (Made (z .args .values .now)) (l .out) (l .j) [] _ (search needs) (l .inv .2)
-          ((λ t d h. e .0 t d h ∙ ap (λ y. pay y d) (v .ensures t h)), e .1 127 (inside (z .args .values .now) _ (l .j) 127 (z .pre .0) (z .pre .1) (search needs) n (omega arith) (v .ensures))),
+          ((λ t d h. e .0 t d h ∙ ap (λ y. pay y d) (v .ensures t h)), e .1 127 (inside (z .args .values .now) _ (l .j) (z .pre .0) (z .pre .1) n (v .ensures))),
     )
 
 returns : tie.Need-returns Inv-loop μ-loop

@@ -7,11 +7,7 @@ use lib.ListN.{length, getD}
 use Rattle.base.proofs.List.{each-next}
 use lib.IntN.{pos}
 use mir.Facts.{toZ-ofZ}
-use mir.Syntax.{w16}
-use mir.Val.{SFits}
 use Rattle.windows.specs.Paths.{IsDifference}
-use Rattle.windows.proofs.Edges.{difference-small}
-use Rattle.run.proofs.Narrow.{narrow}
 use borrow.Author.Needs.{needs}
 use Rattle.layers.proofs.outer_scores.Statement.{statement}
 use Rattle.layers.proofs.outer_scores.Tie as tie
@@ -38,16 +34,6 @@ difference-requires c κs =
     let l : c .before .before .loop .j < 16 = search needs in
     ((search needs, search needs), λ w d h. omega (arith, p .1 _ l w d (omega (arith, p .0 .0))))
 
--- A difference of small entries fits sixteen bits.
-narrow-fits : (c : tie.After-difference Inv-loop μ-loop) → SFits w16 (c .difference .result)
-narrow-fits c =
-    let p = c .before .before .before .before .pre in
-    let l : c .before .before .before .loop .j < 16 = search needs in
-    record { sfits = omega (arith, difference-small _ _ 2032 (λ w d h. p .1 _ l w d (omega (arith, p .0 .0))) (c .difference .result) (c .difference .ensures)) }
-
-cast-out : tie.Need-cast-out Inv-loop μ-loop
-cast-out c = rw (toZ-ofZ (record { sfits = c .difference .ok })) (narrow-fits c)
-
 mul-out : tie.Need-mul-out Inv-loop μ-loop
 mul-out c = search needs
 
@@ -67,7 +53,7 @@ loop-again c =
       search needs,
       search needs,
       each-next (λ i. IsDifference (getD (a .rows .now) i []) (a .n)) (l .out) (l .j) (pos 0) _ (search needs) (l .inv .2)
-          (subst⁻¹ (IsDifference (getD (a .rows .now) (l .j) []) (a .n)) (narrow (c .difference .result) (record { sfits = c .difference .ok }) (narrow-fits c)) (c .difference .ensures)),
+          (subst⁻¹ (IsDifference (getD (a .rows .now) (l .j) []) (a .n)) (toZ-ofZ (record { sfits = c .difference .ok })) (c .difference .ensures)),
     )
 
 returns : tie.Need-returns Inv-loop μ-loop
@@ -83,7 +69,6 @@ outer-scores-spec =
     mul-difference
     index-1-difference
     difference-requires
-    cast-out
     mul-out
     array-set-from-out
     add-j

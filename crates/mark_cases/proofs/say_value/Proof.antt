@@ -1,4 +1,4 @@
--- `mark_cases::say_value` is safe: a value fits sixteen bits. Assumes nothing.
+-- `mark_cases::say_value` is safe: a value fits thirty-two bits. Assumes nothing.
 use mir.Facts.{toZ-ofZ, sfits-widen}
 use borrow.Author.Needs.{needs}
 use Rattle.mark_cases.proofs.say_value.Statement.{statement}

@@ -3,7 +3,6 @@
 use mathlib.Core.Path.{_≡_, refl, ap, _∙_}
 use mathlib.Core.List.{[]}
 use Prim.Native.Nat.{_+_, _-_, _≤_, _<_}
-use native.Mathlib.Nat.{le-trans}
 use native.Mathlib.Omega.{arith}
 use lib.ListN.{take, getD}
 use mir.Facts.{toZ-ofZ}
@@ -12,15 +11,13 @@ use Rattle.bits.specs.Packed.{bits}
 use Rattle.bits.proofs.Packed.{length-bits, zero-at}
 use Rattle.polar.specs.Code.{pay, score}
 use Rattle.polar.proofs.Least.{least-cong, channel-nil}
-use Rattle.polar.proofs.Values.{score-bound}
 use Rattle.folds.specs.Range.{valueLimit}
 use Rattle.folds.specs.Rows.{costsOf, Within}
-use Rattle.folds.proofs.Limit.{limit-room, limit-narrow}
+use Rattle.folds.proofs.Limit.{limit-room}
 use Rattle.kernel.specs.Kernels.{kernelCode}
 use Rattle.kernel.proofs.Undoing.{kernel-code-onto}
-use Rattle.windows.proofs.Following.{range, difference-asks, difference-is, score-fits}
+use Rattle.windows.proofs.Following.{range, difference-asks, difference-is}
 use Rattle.run.specs.Run.{symbolBy}
-use Rattle.run.proofs.Narrow.{whole, narrow}
 use Rattle.run.proofs.Phases.{AfterPhases, no-phase, phase-turn, next-bound, run-of}
 use borrow.Author.Needs.{needs}
 use Rattle.run.proofs.kernel_run.Statement.{statement}
@@ -107,10 +104,7 @@ symbol-of-requires : tie.Need-symbol-of-requires Inv-loop μ-loop
 symbol-of-requires c κs = search needs
 
 paid-requires : tie.Need-paid-requires Inv-loop μ-loop
-paid-requires c κs =
-    let e = c .before in
-    rw (toZ-ofZ (record { sfits = e .difference .ok }))
-    (rw (found e) (le-trans (score-bound (kernelCode _) _ valueLimit (most (c .before .before .before .before .before .before .before .before .before .before)) _) limit-room))
+paid-requires c κs = search needs
 
 -- The symbol of the phase, by its source.
 owned : (c : tie.After-symbol-of Inv-loop μ-loop) → (let l = c .before .before .before .before .before .before .before .before .before .loop in
@@ -120,14 +114,14 @@ owned c =
     let l = c .before .before .before .before .before .before .before .before .before .loop in
     let a = c .before .before .before .before .before .before .before .before .before .before .before .args in
     c .symbol-of .ensures
-    ∙ ap (symbolBy (bit (bits 16 (a .free)) (l .s)) (bit (bits 16 (a .given)) (l .s))) (whole (c .before .difference .result) (record { sfits = c .before .difference .ok }))
+    ∙ ap (symbolBy (bit (bits 16 (a .free)) (l .s)) (bit (bits 16 (a .given)) (l .s))) (toZ-ofZ {z = c .before .difference .result} (record { sfits = c .before .difference .ok }))
 
 -- What it pays.
 pays : (c : tie.After-paid Inv-loop μ-loop) → c .paid .result ≡ pay (c .before .before .difference .result) (c .before .symbol-of .result)
-pays c = c .paid .ensures ∙ ap (λ y. pay y (c .before .symbol-of .result)) (whole (c .before .before .difference .result) (record { sfits = c .before .before .difference .ok }))
+pays c = c .paid .ensures ∙ ap (λ y. pay y (c .before .symbol-of .result)) (toZ-ofZ {z = c .before .before .difference .result} (record { sfits = c .before .before .difference .ok }))
 
 -- The penalty stays small.
-small : (c : tie.After-paid Inv-loop μ-loop) → (let l = c .before .before .before .before .before .before .before .before .before .before .loop in l .penalty + c .paid .result ≤ 65279)
+small : (c : tie.After-paid Inv-loop μ-loop) → (let l = c .before .before .before .before .before .before .before .before .before .before .loop in l .penalty + c .paid .result ≤ 33554432)
 small c =
     let l = c .before .before .before .before .before .before .before .before .before .before .loop in
     let r = c .before .before .before .before .before .before .before .before .before .before .before .before in
@@ -135,7 +129,7 @@ small c =
       arith,
       pays c,
       r .pre .0 .1,
-      limit-narrow,
+      limit-room,
       next-bound (r .args .kernel) _ _ _ (r .args .start) (l .s) _ _ _ _ _ _ (l .inv) (search needs) _ (found (c .before .before)) _ (owned (c .before))
           (c .before .before .before .before .before .step .result) (c .before .before .before .before .before .step .ensures) _ refl (most (c .before .before .before .before .before .before .before .before .before .before .before)),
     )
@@ -143,22 +137,11 @@ small c =
 add-penalty : tie.Need-add-penalty Inv-loop μ-loop
 add-penalty c = omega (arith, small c)
 
-cast-scores : tie.Need-cast-scores Inv-loop μ-loop
-cast-scores c =
-    let e = c .before .before in
-    let l = c .before .before .before .before .before .before .before .before .before .before .loop in
-    let r = c .before .before .before .before .before .before .before .before .before .before .before .before in
-    rw (toZ-ofZ (record { sfits = e .difference .ok }))
-    (score-fits (r .args .kernel) (r .pre .0 .0) (c .before .before .before .before .before .before .before .before .before .before .before .cost-rows .result) (most (c .before .before .before .before .before .before .before .before .before .before .before)) (l .symbols) _ (c .before .before .before .before .before .before .before .before .before .before .before .before .pre .1 .0 .0) (l .s) (search needs) _ (found e))
-
 mul-scores : tie.Need-mul-scores Inv-loop μ-loop
 mul-scores c = search needs
 
 array-set-from-scores : tie.Need-array-set-from-scores Inv-loop μ-loop
 array-set-from-scores c = search needs
-
-cast-penalties : tie.Need-cast-penalties Inv-loop μ-loop
-cast-penalties c = omega (arith, small c)
 
 mul-penalties : tie.Need-mul-penalties Inv-loop μ-loop
 mul-penalties c = search needs
@@ -181,10 +164,9 @@ loop-again c =
     let r = c .before .before .before .before .before .before .before .before .before .before .before .before .before in
     let e = c .before .before .before in
     let d = e .difference .result in
-    let f = score-fits (r .args .kernel) (r .pre .0 .0) (c .before .before .before .before .before .before .before .before .before .before .before .before .cost-rows .result) (most (c .before .before .before .before .before .before .before .before .before .before .before .before)) (l .symbols) _ (c .before .before .before .before .before .before .before .before .before .before .before .before .before .pre .1 .0 .0) (l .s) (search needs) _ (found e) in
     phase-turn (r .args .kernel) _ _ _ (r .args .start) (l .s) _ _ _ _ _ _ (l .inv) (search needs) d (found e) _ (owned (c .before .before))
     (c .before .before .before .before .before .before .step .result) (c .before .before .before .before .before .before .step .ensures) _ (c .with-bit .ensures)
-    _ (narrow d (record { sfits = e .difference .ok }) f) _ (pays (c .before))
+    _ (toZ-ofZ {z = d} (record { sfits = e .difference .ok })) _ (pays (c .before))
 
 returns : tie.Need-returns Inv-loop μ-loop
 returns c =
@@ -211,10 +193,8 @@ kernel-run-spec =
     symbol-of-requires
     paid-requires
     add-penalty
-    cast-scores
     mul-scores
     array-set-from-scores
-    cast-penalties
     mul-penalties
     array-write-penalties
     with-bit-requires

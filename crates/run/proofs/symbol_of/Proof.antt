@@ -3,7 +3,7 @@ use mathlib.Core.Path.{sym, ap, _∙_}
 use lib.IntN.{pos}
 use lib.Signed.{ltZ}
 use mir.Facts.{toZ-ofZ}
-use Rattle.run.proofs.Narrow.{sign-is}
+use Rattle.run.proofs.Symbols.{sign-is}
 use borrow.Author.Needs.{needs}
 use Rattle.run.proofs.symbol_of.Statement.{statement}
 use Rattle.run.proofs.symbol_of.Tie as tie

@@ -1,14 +1,13 @@
--- `run::store_scores` meets its contract: the first i are stored, and the rest of the buffer is as it was. Assumes nothing.
+-- `frame_run::store_narrow_penalties` meets its contract: the first i are stored, and the rest of the buffer is as it was. Assumes nothing.
 use mathlib.Core.Path.{_≡_, refl, sym, ap, _∙_}
 use Prim.Native.Nat.{_+_, _-_, _≤_}
 use native.Mathlib.Numerals.{add-one}
-use lib.IntN.{pos}
+use native.Mathlib.Omega.{arith}
 use lib.ListN.{length, getD, set}
 use lib.Seq.{paste, paste-zero, paste-suc}
-use mir.Facts.{toZ-ofZ}
-use borrow.Author.Needs.{needs, sfits-of}
-use Rattle.run.proofs.store_scores.Statement.{statement}
-use Rattle.run.proofs.store_scores.Tie as tie
+use borrow.Author.Needs.{needs}
+use Rattle.frame_run.proofs.store_narrow_penalties.Statement.{statement}
+use Rattle.frame_run.proofs.store_narrow_penalties.Tie as tie
 
 abbrev Inv-loop : tie.InvT-loop
 Inv-loop at out₀ found i₀ out i = (i ≤ 16) × (length out ≡ length out₀) × (out ≡ paste out₀ at found i)
@@ -22,17 +21,20 @@ loop-holds c = (search needs, refl, paste-zero (c .args .out .now) (c .args .at)
 mul-out : tie.Need-mul-out Inv-loop μ-loop
 mul-out c = search needs
 
-array-copy-out-out : tie.Need-array-copy-out-out Inv-loop μ-loop
-array-copy-out-out c = search needs
+array-read-out : tie.Need-array-read-out Inv-loop μ-loop
+array-read-out c = search needs
 
-add-t11 : tie.Need-add-t11 Inv-loop μ-loop
-add-t11 c = search needs
+cast-out : tie.Need-cast-out Inv-loop μ-loop
+cast-out c = omega (arith, c .before .before .pre .1 (c .before .loop .i) (search needs))
 
-mul-t12 : tie.Need-mul-t12 Inv-loop μ-loop
-mul-t12 c = search needs
+add-out : tie.Need-add-out Inv-loop μ-loop
+add-out c = search needs
 
-slice-set-from-out : tie.Need-slice-set-from-out Inv-loop μ-loop
-slice-set-from-out c = search needs
+mul-out-2 : tie.Need-mul-out-2 Inv-loop μ-loop
+mul-out-2 c = search needs
+
+slice-write-out : tie.Need-slice-write-out Inv-loop μ-loop
+slice-write-out c = search needs
 
 add-i : tie.Need-add-i Inv-loop μ-loop
 add-i c = search needs
@@ -42,14 +44,13 @@ loop-less c = search needs
 
 loop-again : tie.Need-loop-again Inv-loop μ-loop
 loop-again c =
-    let a = c .before .before .before .args in
-    let k = c .before .before .loop in
+    let a = c .before .before .args in
+    let k = c .before .loop in
     let n : length (a .t1) ≡ 16 = search needs in (
       search needs,
       search needs,
-      ap (λ x. set (k .out) (a .at + k .i) x) (toZ-ofZ (sfits-of (c .out .given)))
-          ∙ ap (λ o. set o (a .at + k .i) (getD (a .t1) (k .i) (pos 0))) (k .inv .2)
-          ∙ paste-suc (a .out .now) (a .at) (a .t1) (k .i) (pos 0) (search needs) (search needs)
+      ap (λ o. set o (a .at + k .i) (getD (a .t1) (k .i) 0)) (k .inv .2)
+          ∙ paste-suc (a .out .now) (a .at) (a .t1) (k .i) 0 (search needs) (search needs)
           ∙ ap (paste (a .out .now) (a .at) (a .t1)) (sym (add-one (k .i))),
     )
 
@@ -63,18 +64,19 @@ returns c =
     let a = c .before .before .args in
     k .inv .2 ∙ ap (paste (a .out .now) (a .at) (a .t1)) i
 
-pub store-scores-spec : {M : Type 1} → statement M
-store-scores-spec =
+pub store-narrow-penalties-spec : {M : Type 1} → statement M
+store-narrow-penalties-spec =
     tie.close
     (tie.spec
     Inv-loop
     μ-loop
     loop-holds
     mul-out
-    array-copy-out-out
-    add-t11
-    mul-t12
-    slice-set-from-out
+    array-read-out
+    cast-out
+    add-out
+    mul-out-2
+    slice-write-out
     add-i
     loop-less
     loop-again

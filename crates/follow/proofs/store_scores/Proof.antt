@@ -1,0 +1,81 @@
+-- `follow::store_scores` meets its contract: the first i are stored, and the rest of the buffer is as it was. Assumes nothing.
+use mathlib.Core.Path.{_≡_, refl, sym, ap, ap₂, _∙_}
+use mathlib.Core.List.{List}
+use Prim.Native.Nat.{ℕ, _-_, _≤_}
+use native.Mathlib.Nat.{zero-add}
+use native.Mathlib.Numerals.{add-one}
+use lib.IntN.{ℤ, pos}
+use lib.ListN.{length, getD, set}
+use lib.Seq.{paste, paste-zero, paste-suc}
+use mir.Facts.{toZ-ofZ}
+use borrow.Author.Needs.{needs, sfits-of}
+use Rattle.follow.proofs.store_scores.Statement.{statement}
+use Rattle.follow.proofs.store_scores.Tie as tie
+
+abbrev Inv-loop : tie.InvT-loop
+Inv-loop out₀ found i₀ out i = (i ≤ 16) × (length out ≡ length out₀) × (out ≡ paste out₀ 0 found i)
+
+abbrev μ-loop : tie.MeasureT-loop
+μ-loop out₀ found i₀ out i = 16 - i
+
+loop-holds : tie.Need-loop-holds Inv-loop μ-loop
+loop-holds c = (search needs, refl, paste-zero (c .args .out .now) 0 (c .args .t1))
+
+mul-out : tie.Need-mul-out Inv-loop μ-loop
+mul-out c = search needs
+
+array-copy-out-out : tie.Need-array-copy-out-out Inv-loop μ-loop
+array-copy-out-out c = search needs
+
+mul-t10 : tie.Need-mul-t10 Inv-loop μ-loop
+mul-t10 c = search needs
+
+slice-set-from-out : tie.Need-slice-set-from-out Inv-loop μ-loop
+slice-set-from-out c = search needs
+
+add-i : tie.Need-add-i Inv-loop μ-loop
+add-i c = search needs
+
+loop-less : tie.Need-loop-less Inv-loop μ-loop
+loop-less c = search needs
+
+loop-again : tie.Need-loop-again Inv-loop μ-loop
+loop-again c =
+    let a = c .before .before .before .args in
+    let k = c .before .before .loop in
+    let n : length (a .t1) ≡ 16 = search needs in
+    let x = getD (a .t1) (k .i) (pos 0) in (
+      search needs,
+      search needs,
+      ap (λ y. set (k .out) (k .i) y) (toZ-ofZ (sfits-of (c .out .given)))
+          ∙ ap₂ (λ (o : List ℤ) (j : ℕ). set o j x) (k .inv .2) (sym (zero-add (k .i)))
+          ∙ paste-suc (a .out .now) 0 (a .t1) (k .i) (pos 0) (search needs) (search needs)
+          ∙ ap (paste (a .out .now) 0 (a .t1)) (sym (add-one (k .i))),
+    )
+
+same-length : tie.Need-same-length Inv-loop μ-loop
+same-length c = search needs
+
+returns : tie.Need-returns Inv-loop μ-loop
+returns c =
+    let k = c .before .loop in
+    let i : k .i ≡ 16 = search needs in
+    let a = c .before .before .args in
+    k .inv .2 ∙ ap (paste (a .out .now) 0 (a .t1)) i
+
+pub store-scores-spec : {M : Type 1} → statement M
+store-scores-spec =
+    tie.close
+    (tie.spec
+    Inv-loop
+    μ-loop
+    loop-holds
+    mul-out
+    array-copy-out-out
+    mul-t10
+    slice-set-from-out
+    add-i
+    loop-less
+    loop-again
+    same-length
+    returns)

@@ -1,0 +1,101 @@
+-- `frame_run::store_narrow_scores` meets its contract: the first i are stored, and the rest of the buffer is as it was. Assumes nothing.
+use mathlib.Core.Path.{_≡_, refl, sym, ap, _∙_}
+use Prim.Native.Nat.{_+_, _-_, _≤_}
+use native.Mathlib.Numerals.{add-one}
+use native.Mathlib.Omega.{arith}
+use lib.IntN.{ℤ, pos, negsuc, natAbs}
+use lib.ListN.{length, getD, set}
+use lib.Seq.{paste, paste-zero, paste-suc}
+use mir.Facts.{toZ-ofZ}
+use mir.Syntax.{w16, w32}
+use mir.Val.{SFits, toZ, ofZ}
+use borrow.Author.Needs.{needs, sfits-of}
+use Rattle.frame_run.proofs.store_narrow_scores.Statement.{statement}
+use Rattle.frame_run.proofs.store_narrow_scores.Tie as tie
+
+-- A small score fits sixteen bits,
+fits-narrow : (z : ℤ) → natAbs z ≤ 32767 → SFits w16 z
+fits-narrow (pos n) h = record { sfits = omega arith }
+fits-narrow (negsuc n) h = record { sfits = omega arith }
+
+-- and comes through the cast.
+narrow-is : (z : ℤ) → SFits w32 z → natAbs z ≤ 32767 → toZ w16 (ofZ w16 (toZ w32 (ofZ w32 z))) ≡ z
+narrow-is z f h = ap (λ y. toZ w16 (ofZ w16 y)) (toZ-ofZ f) ∙ toZ-ofZ (fits-narrow z h)
+
+abbrev Inv-loop : tie.InvT-loop
+Inv-loop at out₀ found i₀ out i = (i ≤ 16) × (length out ≡ length out₀) × (out ≡ paste out₀ at found i)
+
+abbrev μ-loop : tie.MeasureT-loop
+μ-loop at out₀ found i₀ out i = 16 - i
+
+loop-holds : tie.Need-loop-holds Inv-loop μ-loop
+loop-holds c = (search needs, refl, paste-zero (c .args .out .now) (c .args .at) (c .args .t1))
+
+mul-out : tie.Need-mul-out Inv-loop μ-loop
+mul-out c = search needs
+
+array-copy-out-out : tie.Need-array-copy-out-out Inv-loop μ-loop
+array-copy-out-out c = search needs
+
+cast-out : tie.Need-cast-out Inv-loop μ-loop
+cast-out c =
+    let z = c .before .before .before in
+    rw (toZ-ofZ (sfits-of (c .out .given))) (fits-narrow (getD (z .args .t1) (c .before .before .loop .i) (pos 0)) (z .pre .1 _ (search needs)))
+
+add-t12 : tie.Need-add-t12 Inv-loop μ-loop
+add-t12 c = search needs
+
+mul-t13 : tie.Need-mul-t13 Inv-loop μ-loop
+mul-t13 c = search needs
+
+slice-set-from-out : tie.Need-slice-set-from-out Inv-loop μ-loop
+slice-set-from-out c = search needs
+
+add-i : tie.Need-add-i Inv-loop μ-loop
+add-i c = search needs
+
+loop-less : tie.Need-loop-less Inv-loop μ-loop
+loop-less c = search needs
+
+loop-again : tie.Need-loop-again Inv-loop μ-loop
+loop-again c =
+    let z = c .before .before .before in
+    let a = z .args in
+    let k = c .before .before .loop in
+    let n : length (a .t1) ≡ 16 = search needs in (
+      search needs,
+      search needs,
+      ap (λ x. set (k .out) (a .at + k .i) x) (narrow-is (getD (a .t1) (k .i) (pos 0)) (sfits-of (c .out .given)) (z .pre .1 _ (search needs)))
+          ∙ ap (λ o. set o (a .at + k .i) (getD (a .t1) (k .i) (pos 0))) (k .inv .2)
+          ∙ paste-suc (a .out .now) (a .at) (a .t1) (k .i) (pos 0) (search needs) (search needs)
+          ∙ ap (paste (a .out .now) (a .at) (a .t1)) (sym (add-one (k .i))),
+    )
+
+same-length : tie.Need-same-length Inv-loop μ-loop
+same-length c = search needs
+
+returns : tie.Need-returns Inv-loop μ-loop
+returns c =
+    let k = c .before .loop in
+    let i : k .i ≡ 16 = search needs in
+    let a = c .before .before .args in
+    k .inv .2 ∙ ap (paste (a .out .now) (a .at) (a .t1)) i
+
+pub store-narrow-scores-spec : {M : Type 1} → statement M
+store-narrow-scores-spec =
+    tie.close
+    (tie.spec
+    Inv-loop
+    μ-loop
+    loop-holds
+    mul-out
+    array-copy-out-out
+    cast-out
+    add-t12
+    mul-t13
+    slice-set-from-out
+    add-i
+    loop-less
+    loop-again
+    same-length
+    returns)
