@@ -8,7 +8,7 @@ use native.Mathlib.Numerals.{add-one}
 use native.Mathlib.Decide.{decLt}
 use native.Mathlib.Omega.{arith}
 use lib.ListN.{length, getD, drop, set}
-use lib.Seq.{ext-getD, drop-cons, drop-length, set-at, append-snoc, getD-set-same, getD-set-other, getD-append-add, getD-drop}
+use lib.Seq.{ext-getD, drop-cons, drop-length, set-at, append-snoc, getD-set-same, getD-set-other, getD-append-add, getD-drop, paste, paste-suc}
 use Rattle.base.specs.Bit.{_⊕_, bit, tabulate, same, find}
 use Rattle.base.proofs.Bool.{⊕-same, ⊕-self}
 
@@ -131,3 +131,9 @@ find-holds (suc n) f (b ∷ u) e t =
 pub find-only : (n : ℕ) (f : List Bool → Bool) (u : List Bool) → length u ≡ n → f u ≡ true
     → ((v : List Bool) → length v ≡ n → f v ≡ true → v ≡ u) → find n f ≡ u
 find-only n f u e t only = only (find n f) (length-find n f) (find-holds n f u e t)
+
+-- A buffer that has the first i of some values pasted at a place, with the next one stored.
+pub paste-one : {X : Type 0} (old new found : List X) (at i j : ℕ) (d x : X) → at + i < length old → i < length found
+    → new ≡ paste old at found i → j ≡ at + i → x ≡ getD found i d → set new j x ≡ paste old at found (i + 1)
+paste-one old new found at i j d x lo lf en ej ex =
+    rw (en, ej, ex) (paste-suc old at found i d lo lf) ∙ ap (paste old at found) (sym (add-one i))

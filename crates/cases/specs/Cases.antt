@@ -60,7 +60,8 @@ outside k = tabulate 16 (λ i. valueRefused k i (pos 32768) 6)
 abbrev pub at32 : Float → ℤ → Case
 at32 amplitude value = quantising (fin false 1 (pos 5)) amplitude value
 
--- The table: every case of every bullet of the paper that has a star, with 2048 and 32768 as request E6 has them, and the greatest score. Where all values are 1, the scores are the partial distances.
+-- The table: every case of every bullet of the paper that has a star, with 2048 and 32768 as request E6 has them, and the greatest
+-- score. Where all values are 1, the scores are the partial distances.
 -- The amplitudes are 1.0, 0.015625, 0.046875, 3.96875, 4.0, -4.0 and minus zero, with scale 32.0.
 abbrev pub starred : List Case
 starred =

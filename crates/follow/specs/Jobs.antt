@@ -14,7 +14,7 @@ use Rattle.kernel.specs.Jobs.{isKernel}
 use Rattle.folds.specs.Range.{valueLimit, firstOutside}
 
 -- The checks of kernel follow, in checking order: the kernel number, the length of the values, the room for the scores,
--- and a value beyond the limit in size, the lowest such index being the place.
+-- and a value outside minus `valueLimit` to `valueLimit`, the lowest such index being the place.
 unfoldable pub kernelFollowChecks : ℕ → List ℤ → ℕ → List Check
 kernelFollowChecks k values room =
     condition 1 (not (isKernel k))

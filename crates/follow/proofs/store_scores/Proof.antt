@@ -1,13 +1,12 @@
 -- `follow::store_scores` meets its contract: the first i are stored, and the rest of the buffer is as it was. Assumes nothing.
-use mathlib.Core.Path.{_≡_, refl, sym, ap, ap₂, _∙_}
-use mathlib.Core.List.{List}
-use Prim.Native.Nat.{ℕ, _-_, _≤_}
+use mathlib.Core.Path.{_≡_, refl, sym, ap, _∙_}
+use Prim.Native.Nat.{_-_, _≤_}
 use native.Mathlib.Nat.{zero-add}
-use native.Mathlib.Numerals.{add-one}
-use lib.IntN.{ℤ, pos}
-use lib.ListN.{length, getD, set}
-use lib.Seq.{paste, paste-zero, paste-suc}
+use lib.IntN.{pos}
+use lib.ListN.{length}
+use lib.Seq.{paste, paste-zero}
 use mir.Facts.{toZ-ofZ}
+use Rattle.base.proofs.List.{paste-one}
 use borrow.Author.Needs.{needs, sfits-of}
 use Rattle.follow.proofs.store_scores.Statement.{statement}
 use Rattle.follow.proofs.store_scores.Tie as tie
@@ -43,14 +42,11 @@ loop-again : tie.Need-loop-again Inv-loop μ-loop
 loop-again c =
     let a = c .before .before .before .args in
     let k = c .before .before .loop in
-    let n : length (a .t1) ≡ 16 = search needs in
-    let x = getD (a .t1) (k .i) (pos 0) in (
+    let n : length (a .t1) ≡ 16 = search needs in (
       search needs,
       search needs,
-      ap (λ y. set (k .out) (k .i) y) (toZ-ofZ (sfits-of (c .out .given)))
-          ∙ ap₂ (λ (o : List ℤ) (j : ℕ). set o j x) (k .inv .2) (sym (zero-add (k .i)))
-          ∙ paste-suc (a .out .now) 0 (a .t1) (k .i) (pos 0) (search needs) (search needs)
-          ∙ ap (paste (a .out .now) 0 (a .t1)) (sym (add-one (k .i))),
+      paste-one (a .out .now) (k .out) (a .t1) 0 (k .i) (k .i) (pos 0) _ (search needs) (search needs) (k .inv .2) (sym (zero-add (k .i)))
+          (toZ-ofZ (sfits-of (c .out .given))),
     )
 
 same-length : tie.Need-same-length Inv-loop μ-loop

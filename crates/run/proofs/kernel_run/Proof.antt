@@ -121,7 +121,7 @@ pays : (c : tie.After-paid Inv-loop μ-loop) → c .paid .result ≡ pay (c .bef
 pays c = c .paid .ensures ∙ ap (λ y. pay y (c .before .symbol-of .result)) (toZ-ofZ {z = c .before .before .difference .result} (record { sfits = c .before .before .difference .ok }))
 
 -- The penalty stays small.
-small : (c : tie.After-paid Inv-loop μ-loop) → (let l = c .before .before .before .before .before .before .before .before .before .before .loop in l .penalty + c .paid .result ≤ 33554432)
+small : (c : tie.After-paid Inv-loop μ-loop) → (let l = c .before .before .before .before .before .before .before .before .before .before .loop in l .penalty + c .paid .result ≤ 16777216 + 16777216)
 small c =
     let l = c .before .before .before .before .before .before .before .before .before .before .loop in
     let r = c .before .before .before .before .before .before .before .before .before .before .before .before in
