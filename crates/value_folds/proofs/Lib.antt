@@ -1,0 +1,4 @@
+pub mod Sizes
+pub mod Filling
+pub mod Read
+pub mod Carried

@@ -1,0 +1,1 @@
+// Channel values: definitions of their folds, and the laws of scores by values. No function runs.
