@@ -1,0 +1,3 @@
+pub mod Totals
+pub mod Paid
+pub mod Transformed
