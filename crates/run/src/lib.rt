@@ -19,7 +19,7 @@ pub fn with_bit(x: u16, i: usize, b: bool) -> u16
 }
 
 // What a score pays for a symbol.
-fn paid(score: i32, symbol: bool) -> u32
+pub fn paid(score: i32, symbol: bool) -> u32
     ensures { λ r. ⌜ r ≡ pay score symbol ⌝ }
 {
     let owed = folds::size(score);
@@ -31,7 +31,7 @@ fn paid(score: i32, symbol: bool) -> u32
 }
 
 // Symbol i by its source: the sign of the score where it is free, else the one that is given.
-fn symbol_of(free: u16, given: u16, i: usize, score: i32) -> bool
+pub fn symbol_of(free: u16, given: u16, i: usize, score: i32) -> bool
     requires { ⌜ i < 16 ⌝ }
     ensures { λ r. ⌜ r ≡ symbolBy (Bit.bit (bits 16 free) i) (Bit.bit (bits 16 given) i) score ⌝ }
 {

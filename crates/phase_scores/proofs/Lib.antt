@@ -1,0 +1,12 @@
+pub mod Lists
+pub mod Scores
+pub mod Tests
+pub mod Block
+pub mod Paths
+pub mod Kernel0
+pub mod Kernel2
+pub mod Kernel1
+pub mod Quarters
+pub mod First
+pub mod Window
+pub mod Rows2
