@@ -81,7 +81,14 @@ static void all_values(int32_t *values, int32_t value)
     }
 }
 
-static void kernel_follow(void)
+/* Either engine of kernel follow. */
+typedef struct nospridda_outcome follow_job(
+    uint8_t kernel,
+    const int32_t *values, size_t values_length,
+    uint16_t symbols,
+    int32_t *scores, size_t scores_length);
+
+static void kernel_follow(follow_job *follow)
 {
     static const int32_t first[SIXTEEN] = {1, 2, 2, 2, 2, 4, 4, 4, 4, 6, 6, 8, 8, 8, 8, 16};
     static const int32_t second[SIXTEEN] = {1, 2, 2, 4, 2, 2, 4, 4, 6, 6, 8, 8, 4, 8, 8, 16};
@@ -89,44 +96,44 @@ static void kernel_follow(void)
     int32_t scores[SIXTEEN] = {0};
 
     all_values(values, 1);
-    outcome(nospridda_kernel_follow(1, values, SIXTEEN, 0, scores, SIXTEEN), NOSPRIDDA_ACCEPTED, 0,
+    outcome(follow(1, values, SIXTEEN, 0, scores, SIXTEEN), NOSPRIDDA_ACCEPTED, 0,
             "kernel follow, kernel 1");
     expect(memcmp(scores, first, sizeof scores) == 0, "the partial distances of kernel 1");
-    outcome(nospridda_kernel_follow(2, values, SIXTEEN, 0, scores, SIXTEEN), NOSPRIDDA_ACCEPTED, 0,
+    outcome(follow(2, values, SIXTEEN, 0, scores, SIXTEEN), NOSPRIDDA_ACCEPTED, 0,
             "kernel follow, kernel 2");
     expect(memcmp(scores, second, sizeof scores) == 0, "the partial distances of kernel 2");
 
     /* The word of symbol 0 has a single 1, and so has that of symbols 0 and 1. */
-    outcome(nospridda_kernel_follow(2, values, SIXTEEN, 0x8000, scores, SIXTEEN), NOSPRIDDA_ACCEPTED, 0,
+    outcome(follow(2, values, SIXTEEN, 0x8000, scores, SIXTEEN), NOSPRIDDA_ACCEPTED, 0,
             "kernel follow, symbol 0 set");
     expect(scores[0] == 1 && scores[1] == 0, "scores after symbol 0");
 }
 
 /* The ends of the range of a kernel's values. */
-static void kernel_limits(void)
+static void kernel_limits(follow_job *follow)
 {
     int32_t values[SIXTEEN];
     int32_t scores[SIXTEEN] = {0};
 
     all_values(values, 2048);
-    outcome(nospridda_kernel_follow(0, values, SIXTEEN, 0, scores, SIXTEEN), NOSPRIDDA_ACCEPTED, 0,
+    outcome(follow(0, values, SIXTEEN, 0, scores, SIXTEEN), NOSPRIDDA_ACCEPTED, 0,
             "kernel follow, all values 2048");
     expect(scores[0] == 2048 && scores[15] == 32768, "a score that needs more than sixteen bits");
 
     all_values(values, 32767);
     values[0] = -32767;
-    outcome(nospridda_kernel_follow(2, values, SIXTEEN, 0, scores, SIXTEEN), NOSPRIDDA_ACCEPTED, 0,
+    outcome(follow(2, values, SIXTEEN, 0, scores, SIXTEEN), NOSPRIDDA_ACCEPTED, 0,
             "kernel follow, the ends of the range");
     expect(scores[15] == 14 * 32767, "the last score, one value against fifteen");
 
     values[9] = 32768;
-    outcome(nospridda_kernel_follow(2, values, SIXTEEN, 0, scores, SIXTEEN), NOSPRIDDA_VALUE_OUT_OF_RANGE, 9,
+    outcome(follow(2, values, SIXTEEN, 0, scores, SIXTEEN), NOSPRIDDA_VALUE_OUT_OF_RANGE, 9,
             "kernel follow, 32768");
     values[5] = -32768;
-    outcome(nospridda_kernel_follow(2, values, SIXTEEN, 0, scores, SIXTEEN), NOSPRIDDA_VALUE_OUT_OF_RANGE, 5,
+    outcome(follow(2, values, SIXTEEN, 0, scores, SIXTEEN), NOSPRIDDA_VALUE_OUT_OF_RANGE, 5,
             "kernel follow, -32768");
     values[5] = INT32_MIN;
-    outcome(nospridda_kernel_follow(2, values, SIXTEEN, 0, scores, SIXTEEN), NOSPRIDDA_VALUE_OUT_OF_RANGE, 5,
+    outcome(follow(2, values, SIXTEEN, 0, scores, SIXTEEN), NOSPRIDDA_VALUE_OUT_OF_RANGE, 5,
             "kernel follow, the least number");
     expect(scores[15] == 14 * 32767, "scores kept by a refusal");
 }
@@ -280,13 +287,15 @@ int main(void)
     uint8_t mask[WORD_BYTES] = {0};
 
     kernels();
-    kernel_follow();
-    kernel_limits();
+    kernel_follow(nospridda_kernel_follow);
+    kernel_follow(nospridda_kernel_follow_hadamard);
+    kernel_limits(nospridda_kernel_follow);
+    kernel_limits(nospridda_kernel_follow_hadamard);
     masks(mask);
     encode_and_undo(mask);
     decode(mask);
     frame_follow();
     marks();
-    printf("all ten functions answer through the header\n");
+    printf("all eleven functions answer through the header\n");
     return EXIT_SUCCESS;
 }

@@ -132,6 +132,24 @@ struct nospridda_outcome nospridda_kernel_follow(
     uint16_t symbols,
     int32_t *scores, size_t scores_length);
 
+/* Kernel follow by the Hadamard engine: the same job. For every request it
+ * answers and writes what nospridda_kernel_follow does. It draws the scores of a
+ * wide window's paths from a fast Hadamard transform.
+ *
+ * values     16 values, each from -32767 to 32767 and positive for bit 0.
+ * scores     16 of them are written, each from -524272 to 524272.
+ *
+ * Answers 0, or, with all scores left as they were,
+ *   1  kernel is not 0, 1 or 2;
+ *   2  values_length is not 16;
+ *   5  scores_length is below 16;
+ *   6  a value is out of range; place: the index of the lowest, 0 to 15. */
+struct nospridda_outcome nospridda_kernel_follow_hadamard(
+    uint8_t kernel,
+    const int32_t *values, size_t values_length,
+    uint16_t symbols,
+    int32_t *scores, size_t scores_length);
+
 /* Frame encode: the word of a payload.
  *
  * mask       32 bytes.

@@ -10,7 +10,8 @@ use plain_decoder::Decoder;
 use crate::frame::bit_of;
 use crate::library::{
     frame_decode, frame_encode, frame_follow, frame_undo, information_mask, kernel_encode,
-    kernel_follow, kernel_undo, part_length, values_from_marks, word_by_bits, word_by_rows,
+    kernel_follow, kernel_follow_hadamard, kernel_undo, part_length, values_from_marks,
+    word_by_bits, word_by_rows,
 };
 use crate::paper::Kernel;
 use crate::product::value;
@@ -27,11 +28,12 @@ const PAYLOAD: usize = 16;
 const SCALE: f32 = 32.0;
 
 /// The library's jobs and a kernel's word by whole rows, what each is called with, and what is timed beside it.
-const JOBS: [(&str, &[&str], &str); 11] = [
+const JOBS: [(&str, &[&str], &str); 12] = [
     ("kernel-encode", KERNELS, "-"),
     ("kernel-undo", KERNELS, "-"),
     ("word-by-rows", KERNELS, "word-by-bits"),
     ("kernel-follow", KERNELS, "sweep-follow"),
+    ("kernel-hadamard", KERNELS, "kernel-follow"),
     ("frame-encode", PAIRS, "-"),
     ("frame-undo", PAIRS, "-"),
     ("frame-follow", PAIRS, "-"),
@@ -140,6 +142,11 @@ impl Inputs {
             "kernel-follow" => each(count, |i| {
                 let (y, symbols) = (&self.values[i], self.words[i]);
                 black_box(kernel_follow(inner, y, symbols, &mut scores[..]));
+                black_box(&mut *scores);
+            }),
+            "kernel-hadamard" => each(count, |i| {
+                let (y, symbols) = (&self.values[i], self.words[i]);
+                black_box(kernel_follow_hadamard(inner, y, symbols, &mut scores[..]));
                 black_box(&mut *scores);
             }),
             _ => return false,

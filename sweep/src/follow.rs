@@ -1,14 +1,34 @@
-//! Kernel follow: every phase of every case against the best over all words.
+//! Kernel follow by both engines: every phase of every case against the best over all words, and the engines against each other.
 use crate::library::Outcome;
 use crate::paper::{bit, Kernel};
 use crate::random::Random;
-use crate::recorded::kernel_follow;
+use crate::recorded::{kernel_follow, kernel_follow_hadamard};
 use crate::scores::{best_symbols, pay, scores, totals, Values, LIMIT};
 use crate::tally::Tally;
 use crate::traps::{self, Traps};
 
 /// How many cases of each kind of values with each kind of symbols.
-const CASES: u64 = 300;
+const CASES: u64 = 1000;
+
+/// Of how many of them it is seen what a mistaken decoder would make.
+const WATCHED: u64 = 300;
+
+/// How many cases the engines are compared on with each other.
+const BOTH: u64 = 1_000_000;
+
+/// A job that follows a kernel.
+type Engine = fn(u8, &[i32], u16, &mut [i32]) -> Outcome;
+
+/// Both of them.
+const ENGINES: [(&str, Engine); 2] = [
+    ("windows", kernel_follow),
+    ("Hadamard", kernel_follow_hadamard),
+];
+
+/// Cases of one engine, for both.
+const fn of_both(cases: u64) -> u64 {
+    cases * ENGINES.len() as u64
+}
 
 /// What an output buffer holds before a call: no score is as low.
 const UNTOUCHED: i32 = i32::MIN;
@@ -32,6 +52,7 @@ pub fn sweep(tally: &mut Tally, kernels: &[Kernel]) {
         random_cases(tally, kernel, &mut random, &mut mistakes);
     }
     mistakes.report(tally);
+    engines_agree(tally, kernels, &mut random);
     traps::named(tally, kernels);
     bench_cases(tally, kernels);
     limits(tally, kernels, &mut random);
@@ -46,7 +67,7 @@ pub fn sweep(tally: &mut Tally, kernels: &[Kernel]) {
 type Make = fn(&mut Random, &Kernel) -> Values;
 
 /// The kinds of values.
-const KINDS: [(&str, Make); 6] = [
+const KINDS: [(&str, Make); 7] = [
     ("full range", |random, _| full_range(random)),
     ("small", |random, _| each(|| random.wide(-3, 3))),
     ("up to 2032", |random, _| each(|| random.wide(-2032, 2032))),
@@ -67,6 +88,11 @@ const KINDS: [(&str, Make); 6] = [
                 -y
             }
         })
+    }),
+    ("a single large value", |random, _| {
+        let mut values = each(|| random.wide(-3, 3));
+        values[random.between(0, 15) as usize] = if random.once_in(2) { LIMIT } else { -LIMIT };
+        values
     }),
     ("a word with noise", |random, kernel| {
         let word = kernel.words[usize::from(random.word())];
@@ -90,24 +116,58 @@ fn full_range(random: &mut Random) -> Values {
     each(|| random.wide(-LIMIT, LIMIT))
 }
 
-/// One accepted case: the outcome, all sixteen scores, and that what lies past them stays.
+/// One accepted case of both engines: the outcome, all sixteen scores, and that what lies past them stays.
 fn compare(tally: &mut Tally, kernel: u8, values: &Values, symbols: u16, want: &[i64; 16]) {
-    let mut got = [UNTOUCHED; 16 + SPARE];
-    let outcome = kernel_follow(kernel, values, symbols, &mut got);
-    if outcome != ACCEPTED {
-        tally.wrong(format_args!(
-            "kernel {kernel}, values {values:?}, symbols {symbols:016b}: wanted {ACCEPTED:?}, got {outcome:?}"
-        ));
-    } else if let Some(phase) = (0..16).find(|&phase| i64::from(got[phase]) != want[phase]) {
-        let (want, got) = (want[phase], got[phase]);
-        tally.wrong(format_args!(
-            "kernel {kernel}, values {values:?}, symbols {symbols:016b}, phase {phase}: wanted {want}, got {got}"
-        ));
-    } else if got[16..] != [UNTOUCHED; SPARE] {
-        tally.wrong(format_args!(
-            "kernel {kernel}, values {values:?}, symbols {symbols:016b}: written past the scores, {got:?}"
-        ));
+    for (engine, follow) in ENGINES {
+        let mut got = [UNTOUCHED; 16 + SPARE];
+        let outcome = follow(kernel, values, symbols, &mut got);
+        let case =
+            format_args!("{engine}, kernel {kernel}, values {values:?}, symbols {symbols:016b}");
+        if outcome != ACCEPTED {
+            tally.wrong(format_args!("{case}: wanted {ACCEPTED:?}, got {outcome:?}"));
+        } else if let Some(phase) = (0..16).find(|&phase| i64::from(got[phase]) != want[phase]) {
+            let (want, got) = (want[phase], got[phase]);
+            tally.wrong(format_args!(
+                "{case}, phase {phase}: wanted {want}, got {got}"
+            ));
+        } else if got[16..] != [UNTOUCHED; SPARE] {
+            tally.wrong(format_args!("{case}: written past the scores, {got:?}"));
+        }
     }
+}
+
+/// The signs of the scores that some symbols have, as a decoder that went astray would choose.
+fn signs(kernel: &Kernel, values: &Values, symbols: u16) -> u16 {
+    let mut scores = [UNTOUCHED; 16];
+    kernel_follow(kernel.number, values, symbols, &mut scores);
+    (0..16).fold(0, |word, i| word | u16::from(scores[i] < 0) << (15 - i))
+}
+
+/// Both engines on the same requests, and nothing else to compare with.
+fn engines_agree(tally: &mut Tally, kernels: &[Kernel], random: &mut Random) {
+    for turn in 0..BOTH {
+        let kernel = &kernels[(turn % 3) as usize];
+        let (_, make) = KINDS[(turn % KINDS.len() as u64) as usize];
+        let values = make(random, kernel);
+        let any = random.word();
+        let symbols = if turn % 2 == 0 {
+            any
+        } else {
+            signs(kernel, &values, any)
+        };
+        let [first, second] = ENGINES.map(|(_, follow)| {
+            let mut scores = [UNTOUCHED; 16];
+            (follow(kernel.number, &values, symbols, &mut scores), scores)
+        });
+        tally.expect(
+            first == second && first.0 == ACCEPTED,
+            format_args!(
+                "kernel {}, values {values:?}, symbols {symbols:016b}: by windows {first:?}, by Hadamard {second:?}",
+                kernel.number
+            ),
+        );
+    }
+    tally.group("follow, both engines against each other", BOTH);
 }
 
 fn random_cases(tally: &mut Tally, kernel: &Kernel, random: &mut Random, mistakes: &mut Traps) {
@@ -128,10 +188,12 @@ fn random_cases(tally: &mut Tally, kernel: &Kernel, random: &mut Random, mistake
             };
             let want = scores(&paid, symbols);
             compare(tally, kernel.number, &values, symbols, &want);
-            mistakes.watch(kernel, &values, symbols, &paid, &want);
+            if turn < 3 * WATCHED {
+                mistakes.watch(kernel, &values, symbols, &paid, &want);
+            }
         }
         let name = format!("kernel {}, follow, {name}", kernel.number);
-        tally.group(&name, 3 * CASES);
+        tally.group(&name, of_both(3 * CASES));
     }
 }
 
@@ -155,7 +217,7 @@ fn bench_cases(tally: &mut Tally, kernels: &[Kernel]) {
             cases += 1;
         }
     }
-    tally.group("bench cases of follow", cases);
+    tally.group("bench cases of follow", of_both(cases));
 }
 
 /// The ends of the range, at each place, at all places and by the bits of a word: all accepted.
@@ -188,10 +250,10 @@ fn limits(tally: &mut Tally, kernels: &[Kernel], random: &mut Random) {
             }
         }
     }
-    tally.group("follow, ends of the range", cases);
+    tally.group("follow, ends of the range", of_both(cases));
 }
 
-/// One refused request: the outcome, and that the output stays as it was.
+/// One refused request to both engines: the outcome, and that the output stays as it was.
 fn refused(
     tally: &mut Tally,
     kernel: u8,
@@ -201,15 +263,17 @@ fn refused(
     want: Outcome,
 ) {
     let before: Vec<i32> = (0..output).map(|i| 123_456_789 - i as i32).collect();
-    let mut after = before.clone();
-    let got = kernel_follow(kernel, values, symbols, &mut after);
-    tally.expect(
-        got == want && after == before,
-        format_args!(
-            "kernel {kernel}, values {values:?}, symbols {symbols:016b}: wanted {want:?}, got {got:?}; \
-             the output was {before:?} before, {after:?} after"
-        ),
-    );
+    for (engine, follow) in ENGINES {
+        let mut after = before.clone();
+        let got = follow(kernel, values, symbols, &mut after);
+        tally.expect(
+            got == want && after == before,
+            format_args!(
+                "{engine}, kernel {kernel}, values {values:?}, symbols {symbols:016b}: wanted {want:?}, got {got:?}; \
+                 the output was {before:?} before, {after:?} after"
+            ),
+        );
+    }
 }
 
 /// Values outside the range: the nearest, the ends of the type, and some that are in range by their low sixteen bits.
@@ -236,7 +300,7 @@ fn out_of_range(tally: &mut Tally, random: &mut Random) {
             }
         }
     }
-    tally.group("follow, a value out of range", cases);
+    tally.group("follow, a value out of range", of_both(cases));
 }
 
 fn two_offenders(tally: &mut Tally, random: &mut Random) {
@@ -259,7 +323,7 @@ fn two_offenders(tally: &mut Tally, random: &mut Random) {
             }
         }
     }
-    tally.group("follow, two values out of range", cases);
+    tally.group("follow, two values out of range", of_both(cases));
 }
 
 fn lengths(tally: &mut Tally, random: &mut Random) {
@@ -278,25 +342,27 @@ fn lengths(tally: &mut Tally, random: &mut Random) {
         // Longer than needed: the scores come first, and the rest stays.
         for output in [17, 20, 64] {
             let (values, symbols) = (full_range(random), random.word());
-            let mut exact = [UNTOUCHED; 16];
-            let mut longer = vec![UNTOUCHED; output];
-            let outcomes = [
-                kernel_follow(kernel, &values, symbols, &mut exact),
-                kernel_follow(kernel, &values, symbols, &mut longer),
-            ];
-            tally.expect(
-                outcomes == [ACCEPTED; 2]
-                    && longer[..16] == exact
-                    && longer[16..].iter().all(|&score| score == UNTOUCHED),
-                format_args!(
-                    "kernel {kernel}, values {values:?}, symbols {symbols:016b}, output of {output}: {outcomes:?}, \
-                     wanted {exact:?} and {UNTOUCHED} after it, got {longer:?}"
-                ),
-            );
+            for (engine, follow) in ENGINES {
+                let mut exact = [UNTOUCHED; 16];
+                let mut longer = vec![UNTOUCHED; output];
+                let outcomes = [
+                    follow(kernel, &values, symbols, &mut exact),
+                    follow(kernel, &values, symbols, &mut longer),
+                ];
+                tally.expect(
+                    outcomes == [ACCEPTED; 2]
+                        && longer[..16] == exact
+                        && longer[16..].iter().all(|&score| score == UNTOUCHED),
+                    format_args!(
+                        "{engine}, kernel {kernel}, values {values:?}, symbols {symbols:016b}, output of {output}: \
+                         {outcomes:?}, wanted {exact:?} and {UNTOUCHED} after it, got {longer:?}"
+                    ),
+                );
+            }
             cases += 1;
         }
     }
-    tally.group("follow, lengths of values and output", cases);
+    tally.group("follow, lengths of values and output", of_both(cases));
 }
 
 /// Numbers that no kernel has, alone and with every other fault.
@@ -308,7 +374,7 @@ fn no_kernel(tally: &mut Tally, random: &mut Random) {
         refused(tally, kernel, &[LIMIT + 1; 17], symbols, 15, refusal(1, 0));
         cases += 2;
     }
-    tally.group("follow, kernels 3 to 255 refused", cases);
+    tally.group("follow, kernels 3 to 255 refused", of_both(cases));
 }
 
 /// Every choice of the four conditions, the neighbouring pairs among them: the first in checking order is named.
@@ -342,5 +408,5 @@ fn conditions_at_once(tally: &mut Tally, random: &mut Random) {
             cases += 1;
         }
     }
-    tally.group("follow, conditions 1, 2, 5 and 6 at once", cases);
+    tally.group("follow, conditions 1, 2, 5 and 6 at once", of_both(cases));
 }

@@ -28,6 +28,14 @@ extern "C" {
         scores: *mut i32,
         scores_length: usize,
     ) -> Outcome;
+    fn nospridda_kernel_follow_hadamard(
+        kernel: u8,
+        values: *const i32,
+        values_length: usize,
+        symbols: u16,
+        scores: *mut i32,
+        scores_length: usize,
+    ) -> Outcome;
     fn nospridda_frame_encode(
         inner: u8,
         outer: u8,
@@ -103,6 +111,25 @@ pub fn kernel_follow(kernel: u8, values: &[i32], symbols: u16, scores: &mut [i32
     // Safe for every input: each buffer goes with its length, and a `&mut` overlaps no other.
     unsafe {
         nospridda_kernel_follow(
+            kernel,
+            values.as_ptr(),
+            values.len(),
+            symbols,
+            scores.as_mut_ptr(),
+            scores.len(),
+        )
+    }
+}
+
+pub fn kernel_follow_hadamard(
+    kernel: u8,
+    values: &[i32],
+    symbols: u16,
+    scores: &mut [i32],
+) -> Outcome {
+    // Safe for every input: each buffer goes with its length, and a `&mut` overlaps no other.
+    unsafe {
+        nospridda_kernel_follow_hadamard(
             kernel,
             values.as_ptr(),
             values.len(),

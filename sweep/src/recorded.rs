@@ -31,10 +31,15 @@ const fn job(name: &'static str, function: &'static str, numbers: &'static [u32]
     }
 }
 
-const JOBS: [Job; 10] = [
+const JOBS: [Job; 11] = [
     job("kernel encode", "kernel_encode", &[0, 1]),
     job("kernel undo", "kernel_undo", &[0, 1]),
     job("kernel follow", "kernel_follow", &[0, 1, 2, 5, 6]),
+    job(
+        "kernel follow by Hadamard",
+        "kernel_follow_hadamard",
+        &[0, 1, 2, 5, 6],
+    ),
     job("frame encode", "frame_encode", &[0, 1, 2, 3, 4, 5]),
     job("frame undo", "frame_undo", &[0, 1, 2, 3, 5, 9]),
     job("frame follow", "frame_follow", &[0, 1, 2, 5, 6]),
@@ -227,6 +232,19 @@ pub fn kernel_follow(kernel: u8, values: &[i32], symbols: u16, scores: &mut [i32
     let outcome = library::kernel_follow(kernel, y.buffer(), symbols, out.buffer());
     let kept = [y.holds(values), out.hand_over(scores)];
     record("kernel_follow", outcome.number, kept == [true; 2]);
+    outcome
+}
+
+pub fn kernel_follow_hadamard(
+    kernel: u8,
+    values: &[i32],
+    symbols: u16,
+    scores: &mut [i32],
+) -> Outcome {
+    let (mut y, mut out) = (Bordered::new(values), Bordered::new(scores));
+    let outcome = library::kernel_follow_hadamard(kernel, y.buffer(), symbols, out.buffer());
+    let kept = [y.holds(values), out.hand_over(scores)];
+    record("kernel_follow_hadamard", outcome.number, kept == [true; 2]);
     outcome
 }
 

@@ -54,3 +54,22 @@ pub fn kernel_follow(kernel: u8, values: &[i32], symbols: u16, scores: &mut [i32
     store_scores(stored, scores);
     Answer::Done
 }
+
+// The same job by the Hadamard engine.
+pub fn kernel_follow_hadamard(
+    kernel: u8,
+    values: &[i32],
+    symbols: u16,
+    scores: &mut [i32],
+) -> Answer
+    ensures { λ r. ⌜ kernelFollow kernel (now (values .entry)) symbols (now (scores .entry)) ≡ (verdict r, now (scores .exit)) ⌝ }
+{
+    let answer = follow_check(kernel, values, scores.len());
+    if !answer::accepted(answer) {
+        return answer;
+    }
+    let found = straight::straight(kernel as usize, values, 0, symbols);
+    let stored = found.scores;
+    store_scores(stored, scores);
+    Answer::Done
+}

@@ -1,5 +1,7 @@
-// Kernel follow at its edges: the ends of the range, every refusal and which of two comes first, and the traps of the paper.
+// Kernel follow at its edges, by both engines: the ends of the range, every refusal and which of two comes first, and the traps
+// of the paper.
 ghost use Prim.Native.Nat.{_<_};
+use answer::Answer;
 use libc::STDOUT_FILENO;
 
 // What a buffer of twenty scores holds before a job.
@@ -107,11 +109,35 @@ fn same_from(a: &[i32], b: &[i32], from: usize) -> bool {
     true
 }
 
+// Both engines on one request, each with a buffer of its own that began as the other's; they must leave the same. The answer
+// is the first one's.
+fn followed(
+    kernel: u8,
+    values: &[i32],
+    symbols: u16,
+    scores: &mut [i32],
+    second: &mut [i32],
+) -> Answer {
+    let a = follow::kernel_follow(kernel, values, symbols, scores);
+    let b = follow::kernel_follow_hadamard(kernel, values, symbols, second);
+    if answer::number(a) != answer::number(b) {
+        io::write_all(STDOUT_FILENO, b"(the engines answer differently) ");
+    }
+    if answer::place(a) != answer::place(b) {
+        io::write_all(STDOUT_FILENO, b"(the engines name different places) ");
+    }
+    if !same_from(scores, second, 0) {
+        io::write_all(STDOUT_FILENO, b"(the engines leave different scores) ");
+    }
+    a
+}
+
 // A job that is refused, and whether its buffer of twenty is as before.
 fn refuse(label: &[u8], kernel: u8, values: &[i32]) {
     let before = BEFORE;
     let mut scores = BEFORE;
-    report::say_answer(label, follow::kernel_follow(kernel, values, 0, &mut scores));
+    let mut second = BEFORE;
+    report::say_answer(label, followed(kernel, values, 0, &mut scores, &mut second));
     report::say_kept(same_from(&scores, &before, 0));
 }
 
@@ -119,7 +145,8 @@ fn refuse(label: &[u8], kernel: u8, values: &[i32]) {
 fn refuse_short(label: &[u8], kernel: u8, values: &[i32]) {
     let before = SHORT;
     let mut scores = SHORT;
-    report::say_answer(label, follow::kernel_follow(kernel, values, 0, &mut scores));
+    let mut second = SHORT;
+    report::say_answer(label, followed(kernel, values, 0, &mut scores, &mut second));
     report::say_kept(same_from(&scores, &before, 0));
 }
 
@@ -129,9 +156,10 @@ fn is_named(kernel: u8, value: i32, place: usize) -> bool
 {
     let before = BEFORE;
     let mut scores = BEFORE;
+    let mut second = BEFORE;
     let mut values = [0i32; 16];
     values[place] = value;
-    let a = follow::kernel_follow(kernel, &values, 0, &mut scores);
+    let a = followed(kernel, &values, 0, &mut scores, &mut second);
     if answer::number(a) != 6 {
         return false;
     }
@@ -165,9 +193,10 @@ fn outside(kernel: u8, value: i32) {
 // The last score for symbols 0.
 fn last_score(label: &[u8], kernel: u8, values: [i32; 16]) {
     let mut scores = [0i32; 16];
+    let mut second = [0i32; 16];
     report::say_answer(
         label,
-        follow::kernel_follow(kernel, &values, 0, &mut scores),
+        followed(kernel, &values, 0, &mut scores, &mut second),
     );
     io::write_all(STDOUT_FILENO, b", score 15:");
     report::say_score(scores[15]);
@@ -186,9 +215,10 @@ fn say_scores(scores: [i32; 20]) {
 fn scores_of(label: &[u8], kernel: u8, values: [i32; 16], symbols: u16) {
     let before = BEFORE;
     let mut scores = BEFORE;
+    let mut second = BEFORE;
     report::say_answer(
         label,
-        follow::kernel_follow(kernel, &values, symbols, &mut scores),
+        followed(kernel, &values, symbols, &mut scores, &mut second),
     );
     io::write_all(STDOUT_FILENO, b", scores");
     say_scores(scores);
@@ -200,9 +230,10 @@ fn trap(label: &[u8], kernel: u8, values: [i32; 16], symbols: u16, phase: usize)
     requires { ⌜ phase < 16 ⌝ }
 {
     let mut scores = [0i32; 16];
+    let mut second = [0i32; 16];
     report::say_answer(
         label,
-        follow::kernel_follow(kernel, &values, symbols, &mut scores),
+        followed(kernel, &values, symbols, &mut scores, &mut second),
     );
     io::write_all(STDOUT_FILENO, b", score ");
     io::print_decimal(STDOUT_FILENO, phase as u64);

@@ -125,6 +125,20 @@ pub extern "C" fn nospridda_kernel_follow(
     outcome_of(a)
 }
 
+// Kernel follow by the Hadamard engine.
+#[no_mangle]
+pub extern "C" fn nospridda_kernel_follow_hadamard(
+    kernel: u8,
+    values: &[i32],
+    symbols: u16,
+    scores: &mut [i32],
+) -> Outcome
+    ensures { λ r. ⌜ outcomeWith (kernelFollow kernel (now (values .entry)) symbols (now (scores .entry))) ≡ (r, now (scores .exit)) ⌝ }
+{
+    let a = follow::kernel_follow_hadamard(kernel, values, symbols, scores);
+    outcome_of(a)
+}
+
 // Frame follow: the scores and penalties of 256 symbols over 256 channel values.
 #[no_mangle]
 pub extern "C" fn nospridda_frame_follow(
