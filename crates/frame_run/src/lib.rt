@@ -92,8 +92,6 @@ pub fn frame_run(
     requires { ⌜ Ready inner outer (now values) (length (now scores)) (length (now penalties)) ⌝ }
     ensures { λ r. ⌜ FrameRun inner outer (now (values .entry)) free given r (now (scores .exit)) (now (scores .entry)) (now (penalties .exit)) (now (penalties .entry)) ⌝ }
 {
-    let shapes = step::shapes_of(inner);
-    let tables = step::tables_of(inner);
     let outer_shapes = step::shapes_of(outer);
     let outer_paths = step::tables_of(outer);
     let matrix = kernel::kernel_rows(inner as u8);
@@ -109,7 +107,7 @@ pub fn frame_run(
         let next = layers::outer_rows(outer, r, shape, outer_paths[r], &costs, columns, rows, word);
         rows = next;
         let found = layers::outer_scores(&rows, step::path_count(shape, r));
-        let row = run::kernel_run(inner, &shapes, &tables, &found, free[r], given[r], penalty);
+        let row = hadamard_run::hadamard_run(inner, &found, free[r], given[r], penalty);
         store_run(row, r * 16, scores, penalties);
         penalty = row.penalties[15];
         symbols[r] = row.symbols;

@@ -22,37 +22,31 @@ use Rattle.frame_run.proofs.frame_run.Statement.{statement}
 use Rattle.frame_run.proofs.frame_run.Tie as tie
 
 abbrev Inv-loop : tie.InvT-loop
-Inv-loop inner outer values scores₀ penalties₀ free given shapes tables outer-shapes outer-paths matrix costs symbols₀ columns₀ rows₀ word₀ penalty₀ r₀ scores penalties symbols columns rows word penalty r =
+Inv-loop inner outer values scores₀ penalties₀ free given outer-shapes outer-paths matrix costs symbols₀ columns₀ rows₀ word₀ penalty₀ r₀ scores penalties symbols columns rows word penalty r =
     AfterRows inner outer values costs (bit (rowsBits free)) (bit (rowsBits given)) scores₀ penalties₀ r symbols columns rows word penalty scores penalties
     × (length scores ≡ length scores₀) × (length penalties ≡ length penalties₀)
 
 abbrev μ-loop : tie.MeasureT-loop
-μ-loop inner outer values scores₀ penalties₀ free given shapes tables outer-shapes outer-paths matrix costs symbols₀ columns₀ rows₀ word₀ penalty₀ r₀ scores penalties symbols columns rows word penalty r = 16 - r
+μ-loop inner outer values scores₀ penalties₀ free given outer-shapes outer-paths matrix costs symbols₀ columns₀ rows₀ word₀ penalty₀ r₀ scores penalties symbols columns rows word penalty r = 16 - r
 
 shapes-of-requires : tie.Need-shapes-of-requires Inv-loop μ-loop
-shapes-of-requires c κs = (c .before) .pre .inner
+shapes-of-requires c κs = (c .before) .pre .outer
 
 tables-of-requires : tie.Need-tables-of-requires Inv-loop μ-loop
-tables-of-requires c κs = (c .before .before) .pre .inner
-
-shapes-of-requires-2 : tie.Need-shapes-of-requires-2 Inv-loop μ-loop
-shapes-of-requires-2 c κs = (c .before .before .before) .pre .outer
-
-tables-of-requires-2 : tie.Need-tables-of-requires-2 Inv-loop μ-loop
-tables-of-requires-2 c κs = (c .before .before .before .before) .pre .outer
+tables-of-requires c κs = (c .before .before) .pre .outer
 
 cast-kernel-rows : tie.Need-cast-kernel-rows Inv-loop μ-loop
-cast-kernel-rows c = let z = c .before .before .before .before .before in omega (arith, z .pre .inner, z .pre .outer)
+cast-kernel-rows c = let z = c .before .before .before in omega (arith, z .pre .inner, z .pre .outer)
 
 kernel-rows-requires : tie.Need-kernel-rows-requires Inv-loop μ-loop
-kernel-rows-requires c κs = let z = c .before .before .before .before .before in omega (arith, z .pre .inner, z .pre .outer)
+kernel-rows-requires c κs = let z = c .before .before .before in omega (arith, z .pre .inner, z .pre .outer)
 
 outer-costs-requires : tie.Need-outer-costs-requires Inv-loop μ-loop
-outer-costs-requires c κs = let z = c .before .before .before .before .before .before in (z .pre .count, z .pre .inside)
+outer-costs-requires c κs = let z = c .before .before .before .before in (z .pre .count, z .pre .inside)
 
 loop-holds : tie.Need-loop-holds Inv-loop μ-loop
 loop-holds c =
-    let a = c .before .before .before .before .before .before .before .args in
+    let a = c .before .before .before .before .before .args in
     (no-row (a .inner) (a .outer) (a .values .now) _ _ _ (a .scores .now) (a .penalties .now) _ _ _ _ refl (zeros-at 16), refl, refl)
 
 mul-shape : tie.Need-mul-shape Inv-loop μ-loop
@@ -70,70 +64,65 @@ array-copy-out-outer-rows c = search needs
 outer-rows-requires : tie.Need-outer-rows-requires Inv-loop μ-loop
 outer-rows-requires c κs =
     let q = c .before .before .before .before in
-    let z = q .before .before .before .before .before .before .before .before in
+    let z = q .before .before .before .before .before .before in
     let at : List (List ℕ) → List ℕ = λ t. getD t (q .loop .r) [] in
-    ((z .pre .outer, search needs), ((ap at (q .before .before .before .before .shapes-of2 .ensures), ap (λ t. getD t (q .loop .r) []) (q .before .before .before .tables-of2 .ensures)), (q .before .outer-costs .ensures .1, q .loop .inv .0 .kept-so)))
+    ((z .pre .outer, search needs), ((ap at (q .before .before .before .before .shapes-of .ensures), ap (λ t. getD t (q .loop .r) []) (q .before .before .before .tables-of .ensures)), (q .before .outer-costs .ensures .1, q .loop .inv .0 .kept-so)))
 
 path-count-requires : tie.Need-path-count-requires Inv-loop μ-loop
 path-count-requires c κs =
     let q = c .before .before .before .before .before .before in
-    let z = q .before .before .before .before .before .before .before .before in
-    in-range (z .args .outer) (q .loop .r) (z .pre .outer) (search needs) 0 _ (ap (λ t. getD t (q .loop .r) []) (q .before .before .before .before .shapes-of2 .ensures))
+    let z = q .before .before .before .before .before .before in
+    in-range (z .args .outer) (q .loop .r) (z .pre .outer) (search needs) 0 _ (ap (λ t. getD t (q .loop .r) []) (q .before .before .before .before .shapes-of .ensures))
 
 outer-scores-requires : tie.Need-outer-scores-requires Inv-loop μ-loop
 outer-scores-requires c κs =
     let q = c .before .before .before .before .before .before .before in
-    let z = q .before .before .before .before .before .before .before .before in
+    let z = q .before .before .before .before .before .before in
     let h = c .before .before .outer-rows in
-    outer-asks (z .args .outer) (z .pre .outer) (q .before .outer-costs .result) (q .before .outer-costs .ensures .1) (q .loop .columns) _ (q .before .before .before .before .shapes-of2 .ensures) (q .loop .r) (search needs) (h .result) (h .ensures) (c .path-count .result) (c .path-count .ensures)
+    outer-asks (z .args .outer) (z .pre .outer) (q .before .outer-costs .result) (q .before .outer-costs .ensures .1) (q .loop .columns) _ (q .before .before .before .before .shapes-of .ensures) (q .loop .r) (search needs) (h .result) (h .ensures) (c .path-count .result) (c .path-count .ensures)
 
-slice-aggregate-kernel-run : tie.Need-slice-aggregate-kernel-run Inv-loop μ-loop
-slice-aggregate-kernel-run c = search needs
+slice-aggregate-hadamard-run : tie.Need-slice-aggregate-hadamard-run Inv-loop μ-loop
+slice-aggregate-hadamard-run c = search needs
 
-mul-kernel-run : tie.Need-mul-kernel-run Inv-loop μ-loop
-mul-kernel-run c = search needs
+mul-hadamard-run : tie.Need-mul-hadamard-run Inv-loop μ-loop
+mul-hadamard-run c = search needs
 
-array-read-kernel-run : tie.Need-array-read-kernel-run Inv-loop μ-loop
-array-read-kernel-run c = search needs
+array-read-hadamard-run : tie.Need-array-read-hadamard-run Inv-loop μ-loop
+array-read-hadamard-run c = search needs
 
-mul-kernel-run-2 : tie.Need-mul-kernel-run-2 Inv-loop μ-loop
-mul-kernel-run-2 c = search needs
+mul-hadamard-run-2 : tie.Need-mul-hadamard-run-2 Inv-loop μ-loop
+mul-hadamard-run-2 c = search needs
 
-array-read-kernel-run-2 : tie.Need-array-read-kernel-run-2 Inv-loop μ-loop
-array-read-kernel-run-2 c = search needs
+array-read-hadamard-run-2 : tie.Need-array-read-hadamard-run-2 Inv-loop μ-loop
+array-read-hadamard-run-2 c = search needs
 
 -- The values of the inner kernel are small,
 small-values : (c : tie.After-outer-scores Inv-loop μ-loop) → firstOutside (16 * 127) (c .outer-scores .result) ≡ length (c .outer-scores .result)
 small-values c =
     let q = c .before .before .before .before .before .before .before .before in
-    let z = q .before .before .before .before .before .before .before .before in
+    let z = q .before .before .before .before .before .before in
     let h = c .before .before .before .outer-rows in
     let n = c .before .path-count in
     let f = c .outer-scores in
-    found-small (z .args .outer) (z .pre .outer) (q .before .outer-costs .result) (q .before .outer-costs .ensures .1) (q .loop .columns) _ (q .before .before .before .before .shapes-of2 .ensures) (q .loop .r) (c .before .before .before .before .before .before .before .loop-test .taken) (h .result) (h .ensures) (n .result) (n .ensures) (f .result) (search needs) (f .ensures)
+    found-small (z .args .outer) (z .pre .outer) (q .before .outer-costs .result) (q .before .outer-costs .ensures .1) (q .loop .columns) _ (q .before .before .before .before .shapes-of .ensures) (q .loop .r) (c .before .before .before .before .before .before .before .loop-test .taken) (h .result) (h .ensures) (n .result) (n .ensures) (f .result) (search needs) (f .ensures)
 
 -- and so is the penalty of the rows so far.
 small-penalty : (c : tie.After-outer-scores Inv-loop μ-loop) → (let q = c .before .before .before .before .before .before .before .before in q .loop .penalty ≤ 256 * 127)
 small-penalty c =
     let q = c .before .before .before .before .before .before .before .before in
-    let z = q .before .before .before .before .before .before .before .before in
+    let z = q .before .before .before .before .before .before in
     omega (arith, q .loop .inv .0 .penalty-so, penalty-small (z .args .inner) (z .args .outer) (z .args .values .now) (z .pre .inside ∙ sym (z .pre .count)) (front (q .loop .r) (q .loop .symbols)))
 
-kernel-run-requires : tie.Need-kernel-run-requires Inv-loop μ-loop
-kernel-run-requires c κs =
-    let q = c .before .before .before .before .before .before .before .before .before .before .before in
-    let z = q .before .before .before .before .before .before .before .before in
-    let f = c .before .before .before .outer-scores in
-    let long : length (f .result) ≡ 16 = search needs in (
-      (z .pre .inner, omega (arith, small-penalty (c .before .before .before))),
-      (
-        (q .before .before .before .before .before .before .shapes-of .ensures, q .before .before .before .before .before .tables-of .ensures),
-        (long, outside-wider (16 * 127) valueLimit frame-inside (f .result) (small-values (c .before .before .before)) ∙ long),
-      ),
-    )
+hadamard-run-requires : tie.Need-hadamard-run-requires Inv-loop μ-loop
+hadamard-run-requires c κs =
+    let q = c .before .before .before .before .before .before .before .before .before in
+    let z = q .before .before .before .before .before .before in
+    let f = c .before .outer-scores in
+    let long : length (f .result) ≡ 16 = search needs in
+    (z .pre .inner, omega (arith, small-penalty (c .before)), long, outside-wider (16 * 127) valueLimit frame-inside (f .result) (small-values (c .before)) ∙ long)
 
 -- A row has sixteen penalties.
-penalties-long : (c : tie.After-kernel-run Inv-loop μ-loop) → length (c .kernel-run .result .penalties) ≡ 16
+penalties-long : (c : tie.After-hadamard-run Inv-loop μ-loop) → length (c .hadamard-run .result .penalties) ≡ 16
 penalties-long c = search needs
 
 mul-store-run : tie.Need-mul-store-run Inv-loop μ-loop
@@ -141,11 +130,11 @@ mul-store-run c = search needs
 
 store-run-requires : tie.Need-store-run-requires Inv-loop μ-loop
 store-run-requires c κs =
-    let q = c .before .before .before .before .before .before .before .before .before .before .before .before .before .before in
-    let z = q .before .before .before .before .before .before .before .before in
-    let t = c .before .before .before .before .before .before .before .before .before .before .before .before .before .loop-test .taken in
-    let row = c .before .before .kernel-run in
-    let f = c .before .before .before .before .before .before in
+    let q = c .before .before .before .before .before .before .before .before .before .before .before .before in
+    let z = q .before .before .before .before .before .before in
+    let t = c .before .before .before .before .before .before .before .before .before .before .before .loop-test .taken in
+    let row = c .before .before .hadamard-run in
+    let f = c .before .before .before .before in
     let found = f .outer-scores .result in (
       (omega (arith, q .loop .inv .1, z .pre .score-room, t), omega (arith, q .loop .inv .2, z .pre .penalty-room, t)),
       (
@@ -170,22 +159,22 @@ next-columns-requires : tie.Need-next-columns-requires Inv-loop μ-loop
 next-columns-requires c κs = search needs
 
 add-r : tie.Need-add-r Inv-loop μ-loop
-add-r c = omega (arith, c .before .before .before .before .before .before .before .before .before .before .before .before .before .before .before .before .before .before .before .before .loop-test .taken)
+add-r c = omega (arith, c .before .before .before .before .before .before .before .before .before .before .before .before .before .before .before .before .before .before .loop-test .taken)
 
 loop-less : tie.Need-loop-less Inv-loop μ-loop
-loop-less c = omega (arith, c .before .before .before .before .before .before .before .before .before .before .before .before .before .before .before .before .before .before .before .before .loop-test .taken)
+loop-less c = omega (arith, c .before .before .before .before .before .before .before .before .before .before .before .before .before .before .before .before .before .before .loop-test .taken)
 
 loop-again : tie.Need-loop-again Inv-loop μ-loop
 loop-again c =
-    let q = c .before .before .before .before .before .before .before .before .before .before .before .before .before .before .before .before .before .before .before .before .before in
-    let z = q .before .before .before .before .before .before .before .before in
+    let q = c .before .before .before .before .before .before .before .before .before .before .before .before .before .before .before .before .before .before .before in
+    let z = q .before .before .before .before .before .before in
     let a = z .args in
     let l = q .loop in
-    let lr : l .r < 16 = c .before .before .before .before .before .before .before .before .before .before .before .before .before .before .before .before .before .before .before .before .loop-test .taken in
-    let h = c .before .before .before .before .before .before .before .before .before .before .before .before .before .before .before .before .outer-rows in
-    let n = c .before .before .before .before .before .before .before .before .before .before .before .before .before .before .path-count in
-    let f = c .before .before .before .before .before .before .before .before .before .before .before .before .before .outer-scores in
-    let row = c .before .before .before .before .before .before .before .before .before .kernel-run in
+    let lr : l .r < 16 = c .before .before .before .before .before .before .before .before .before .before .before .before .before .before .before .before .before .before .loop-test .taken in
+    let h = c .before .before .before .before .before .before .before .before .before .before .before .before .before .before .outer-rows in
+    let n = c .before .before .before .before .before .before .before .before .before .before .before .before .path-count in
+    let f = c .before .before .before .before .before .before .before .before .before .before .before .outer-scores in
+    let row = c .before .before .before .before .before .before .before .before .before .hadamard-run in
     let stored = c .before .before .before .before .before .before .store-run in
     let word = c .before .row-sum in
     let long = penalties-long (c .before .before .before .before .before .before .before .before .before) in
@@ -193,7 +182,7 @@ loop-again c =
     sym (ap (bit (rowsBits t)) (let e : l .r * 16 + s ≡ 16 * l .r + s = omega arith in e) ∙ rows-bits-at t (l .r) s lr ls) in (
       row-turn (a .inner) (a .outer) (a .values .now) (q .before .outer-costs .result) _ _ (a .scores .now) (a .penalties .now) (q .before .outer-costs .ensures .0)
           (l .r) (l .symbols) (l .columns) (l .rows) (l .word) (l .penalty) (l .scores) (l .penalties) (l .inv .0) lr
-          (f .result) (λ j lj. outer-score (z .args .outer) (z .pre .outer) (q .before .outer-costs .result) (q .before .outer-costs .ensures .1) (q .loop .columns) _ (q .before .before .before .before .shapes-of2 .ensures) (q .loop .r) lr (h .result) (h .ensures) (n .result) (n .ensures) j lj _ (f .ensures j lj))
+          (f .result) (λ j lj. outer-score (z .args .outer) (z .pre .outer) (q .before .outer-costs .result) (q .before .outer-costs .ensures .1) (q .loop .columns) _ (q .before .before .before .before .shapes-of .ensures) (q .loop .r) lr (h .result) (h .ensures) (n .result) (n .ensures) j lj _ (f .ensures j lj))
           (getD (a .t4) (l .r) 0) (getD (a .t5) (l .r) 0) (row .result .symbols) (row .result .scores) (row .result .penalties) (at (a .t4)) (at (a .t5)) (row .ensures) long
           (word .result)
           (λ j lj. ap (λ v. bit (bits 16 v) j) (word .ensures ∙ ap (λ t. rowSum t (row .result .symbols)) (q .before .before .kernel-rows .ensures)) ∙ word-of (a .inner) (row .result .symbols) j (z .pre .inner) lj)
@@ -211,7 +200,7 @@ same-length-2 c = search needs
 returns : tie.Need-returns Inv-loop μ-loop
 returns c =
     let q = c .before in
-    let a = q .before .before .before .before .before .before .before .before .args in
+    let a = q .before .before .before .before .before .before .args in
     let l = q .loop in
     all-rows (a .inner) (a .outer) (a .values .now) _ (a .t4) (a .t5) (a .scores .now) (a .penalties .now) (l .r) (l .symbols) (l .columns) (l .rows) (l .word) (l .penalty) _ _ (search needs) (l .inv .0)
 
@@ -223,8 +212,6 @@ frame-run-spec =
     μ-loop
     shapes-of-requires
     tables-of-requires
-    shapes-of-requires-2
-    tables-of-requires-2
     cast-kernel-rows
     kernel-rows-requires
     outer-costs-requires
@@ -236,12 +223,12 @@ frame-run-spec =
     outer-rows-requires
     path-count-requires
     outer-scores-requires
-    slice-aggregate-kernel-run
-    mul-kernel-run
-    array-read-kernel-run
-    mul-kernel-run-2
-    array-read-kernel-run-2
-    kernel-run-requires
+    slice-aggregate-hadamard-run
+    mul-hadamard-run
+    array-read-hadamard-run
+    mul-hadamard-run-2
+    array-read-hadamard-run-2
+    hadamard-run-requires
     mul-store-run
     store-run-requires
     element-copy-out-penalty
