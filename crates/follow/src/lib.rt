@@ -68,7 +68,7 @@ pub fn kernel_follow_hadamard(
     if !answer::accepted(answer) {
         return answer;
     }
-    let found = straight::straight(kernel as usize, values, 0, symbols);
+    let found = hadamard_run::straight(kernel as usize, values, 0, symbols);
     let stored = found.scores;
     store_scores(stored, scores);
     Answer::Done
