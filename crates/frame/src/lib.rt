@@ -42,7 +42,7 @@ fn payload_word(inner: u8, outer: u8, mask: &[u8], payload: &[u8]) -> [u16; 16]
     ensures { λ r. ⌜ rowsBits r ≡ tabulate 256 ((frameCode inner outer) .word (Payload.spread (unpack (now (mask .entry))) (unpack (now (payload .entry))))) ⌝ }
 {
     let mut symbols = [0u8; 32];
-    payload::spread(mask, payload, &mut symbols);
+    spread::spread(mask, payload, &mut symbols);
     let rows = grid::rows_of(&symbols);
     grid::frame_rows(kernel::kernel_rows(inner), kernel::kernel_rows(outer), rows)
 }

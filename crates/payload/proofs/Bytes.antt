@@ -1,4 +1,4 @@
--- Reading four bytes, and a turn of each loop of gathering and searching. Assumes nothing.
+-- A turn of each loop of gathering and searching. Assumes nothing.
 use mathlib.Core.Path.{_≡_, refl, sym, ap, ap₂, _∙_}
 use mathlib.Core.Bool.{Bool, true, false, _&&_, false≢true}
 use mathlib.Core.List.{List, _++_, append-assoc}
@@ -9,29 +9,11 @@ use lib.Bits.{bitAnd, bitXor, and-le-l}
 use lib.Count.{leadingZeros, leading-le, leading-of-zero, leading-top}
 use lib.ListN.{length, getD, drop}
 use lib.Pow.{high, low}
-use lib.Seq.{drop-drop}
 use Rattle.base.specs.Bit.{bit, _⊕_}
-use Rattle.bits.specs.Packed.{bits, number, unpack, pad}
+use Rattle.bits.specs.Packed.{bits, number, unpack}
 use Rattle.payload.specs.Payload.{ones, gather, frozenOne}
-use Rattle.bits.proofs.Packed.{length-bits, bits-mod, bits-low, bits-split, and-at, xor-at, leading-bits, number-lt, number-bits, bits-number, unpack-next, byteAt, byte-next, side-by-side, two-bytes-from}
+use Rattle.bits.proofs.Packed.{length-bits, bits-mod, bits-low, bits-split, and-at, xor-at, leading-bits, number-lt, number-bits, bits-number, unpack-next, byteAt, byte-next}
 use Rattle.payload.proofs.Payload.{length-gather, gather-append, frozen-is, frozen-first, frozen-second}
-
--- ---- reading
-
--- Four bytes, from byte q on.
-pub four-bytes-from : (s : List ℕ) (q x : ℕ)
-    → x ≡ 65536 * (256 * getD s q 0 + getD s (q + 1) 0) + (256 * getD s (q + 2) 0 + getD s (q + 3) 0)
-    → ((i : ℕ) → getD s i 0 < 256) → bits 32 x ≡ pad 32 (drop (8 * q) (unpack s))
-four-bytes-from s q x e h =
-    let a : ℕ = 256 * getD s q 0 + getD s (q + 1) 0 in
-    let b : ℕ = 256 * getD s (q + 2) 0 + getD s (q + 3) 0 in
-    let n : 8 * (q + 2) ≡ 8 * q + 16 = omega arith in
-    let k : q + 2 + 1 ≡ q + 3 = omega arith in
-    ap (bits 32) e
-    ∙ side-by-side 16 a b (drop (8 * q) (unpack s)) (omega (arith, h (q + 2), h (q + 3)))
-    (two-bytes-from s q a refl (h (q + 1)))
-    (two-bytes-from s (q + 2) b (ap (λ i. 256 * getD s (q + 2) 0 + getD s i 0) (sym k)) (h (q + 2 + 1))
-    ∙ ap (λ i. pad 16 (drop i (unpack s))) n ∙ ap (pad 16) (sym (drop-drop 16 (8 * q) (unpack s))))
 
 -- ---- gathering
 

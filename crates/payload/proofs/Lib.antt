@@ -2,4 +2,3 @@ pub mod Payload
 pub mod Tables
 pub mod Bytes
 pub mod Marked
-pub mod Spreading

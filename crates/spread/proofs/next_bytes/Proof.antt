@@ -1,14 +1,14 @@
--- `payload::next_bytes` meets its contract: the first i bytes are stored, and j bits of the payload are used. Assumes nothing.
+-- `spread::next_bytes` meets its contract: the first i bytes are stored, and j bits of the payload are used. Assumes nothing.
 use mathlib.Core.Path.{_≡_, refl, sym, _∙_}
 use Prim.Native.Nat.{_-_, _≤_}
 use borrow.Author.Needs.{needs}
 use lib.ListN.{length}
 use Rattle.bits.specs.Packed.{unpack}
 use Rattle.payload.specs.Payload.{ones}
-use Rattle.payload.specs.Spreading.{marksBefore, nextPart}
-use Rattle.payload.proofs.Spreading.{next-none}
-use Rattle.payload.proofs.next_bytes.Statement.{statement}
-use Rattle.payload.proofs.next_bytes.Tie as tie
+use Rattle.spread.specs.Spreading.{marksBefore, nextPart}
+use Rattle.spread.proofs.Spreading.{next-none}
+use Rattle.spread.proofs.next_bytes.Statement.{statement}
+use Rattle.spread.proofs.next_bytes.Tie as tie
 
 abbrev Inv-loop : tie.InvT-loop
 Inv-loop mask payload bytes₀ i₀ j₀ bytes i j =

@@ -1,14 +1,14 @@
--- `payload::next_rest` meets its contract: the first i bytes are stored, and j bits of the payload are used. Assumes nothing.
+-- `spread::next_rest` meets its contract: the first i bytes are stored, and j bits of the payload are used. Assumes nothing.
 use mathlib.Core.Path.{_≡_, ap, _∙_}
 use Prim.Native.Nat.{_-_, _≤_, _<_}
 use native.Mathlib.Omega.{arith}
 use borrow.Author.Needs.{needs}
 use lib.ListN.{length}
 use Rattle.bits.specs.Packed.{unpack}
-use Rattle.payload.specs.Spreading.{marksBefore, nextPart}
-use Rattle.payload.proofs.Spreading.{marks-before-le, next-length, next-marks, next-stored, next-all}
-use Rattle.payload.proofs.next_rest.Statement.{statement}
-use Rattle.payload.proofs.next_rest.Tie as tie
+use Rattle.spread.specs.Spreading.{marksBefore, nextPart}
+use Rattle.spread.proofs.Spreading.{marks-before-le, next-length, next-marks, next-stored, next-all}
+use Rattle.spread.proofs.next_rest.Statement.{statement}
+use Rattle.spread.proofs.next_rest.Tie as tie
 
 abbrev Inv-loop : tie.InvT-loop
 Inv-loop mask payload bytes₀ start used i₀ j₀ bytes i j =

@@ -1,10 +1,10 @@
--- `payload::byte_or_zero` meets its contract. Assumes nothing.
+-- `spread::byte_or_zero` meets its contract. Assumes nothing.
 use mathlib.Core.Path.{sym}
 use Prim.Native.Nat.{_≤_}
 use borrow.Author.Needs.{needs}
 use lib.ListN.{length, List·getD-eq-default}
-use Rattle.payload.proofs.byte_or_zero.Statement.{statement}
-use Rattle.payload.proofs.byte_or_zero.Tie as tie
+use Rattle.spread.proofs.byte_or_zero.Statement.{statement}
+use Rattle.spread.proofs.byte_or_zero.Tie as tie
 
 shared-slice-read-result : tie.Need-shared-slice-read-result
 shared-slice-read-result c = search needs

@@ -1,4 +1,4 @@
--- `payload::deposit_byte` meets its contract: after i phases u has their symbols, and rest the payload bits that are left. Assumes nothing.
+-- `spread::deposit_byte` meets its contract: after i phases u has their symbols, and rest the payload bits that are left. Assumes nothing.
 use mathlib.Core.Path.{_∙_}
 use mathlib.Core.Logic.{⊎-elim}
 use Prim.Native.Nat.{_-_, _≤_, _<_}
@@ -6,9 +6,9 @@ use native.Mathlib.Omega.{arith}
 use borrow.Author.Needs.{needs}
 use borrow.Author.Tests.{eq-eqb, ne-eqb}
 use Rattle.bits.proofs.Packed.{bits-shift}
-use Rattle.payload.proofs.Spreading.{Partly, partly-none, partly-marked, partly-frozen, partly-all}
-use Rattle.payload.proofs.deposit_byte.Statement.{statement}
-use Rattle.payload.proofs.deposit_byte.Tie as tie
+use Rattle.spread.proofs.Spreading.{Partly, partly-none, partly-marked, partly-frozen, partly-all}
+use Rattle.spread.proofs.deposit_byte.Statement.{statement}
+use Rattle.spread.proofs.deposit_byte.Tie as tie
 
 abbrev Inv-loop : tie.InvT-loop
 Inv-loop m p u₀ rest₀ i₀ u rest i = (i ≤ 8) × (u < 256) × (rest < 256) × Partly m p u rest i

@@ -1,4 +1,4 @@
--- `payload::next_four` meets its contract: r bytes more are stored, and d bits are used from bit 8 q on. Assumes nothing.
+-- `spread::next_four` meets its contract: r bytes more are stored, and d bits are used from bit 8 q on. Assumes nothing.
 use mathlib.Core.Path.{_≡_, sym, ap, _∙_}
 use Prim.Native.Nat.{ℕ, _+_, _-_, _*_, _/_, _%_, _^_, _≤_, _<_}
 use native.Mathlib.Omega.{arith}
@@ -7,11 +7,11 @@ use lib.ListN.{length, getD, drop}
 use lib.Seq.{drop-drop}
 use Rattle.bits.specs.Packed.{unpack, pad}
 use Rattle.bits.proofs.Packed.{bits-from}
-use Rattle.payload.specs.Spreading.{marksBefore, nextPart}
+use Rattle.spread.specs.Spreading.{marksBefore, nextPart}
 use Rattle.payload.proofs.Tables.{marks-le}
-use Rattle.payload.proofs.Spreading.{marks-before-le, next-length, next-count, next-marks, next-stored}
-use Rattle.payload.proofs.next_four.Statement.{statement}
-use Rattle.payload.proofs.next_four.Tie as tie
+use Rattle.spread.proofs.Spreading.{marks-before-le, next-length, next-count, next-marks, next-stored}
+use Rattle.spread.proofs.next_four.Statement.{statement}
+use Rattle.spread.proofs.next_four.Tie as tie
 
 abbrev Inv-loop : tie.InvT-loop
 Inv-loop mask payload bytes₀ i j q x d₀ r₀ bytes d r =

@@ -12,9 +12,9 @@ use Rattle.base.specs.Bit.{bit, odd, tabulate}
 use Rattle.base.proofs.List.{length-tabulate, tabulate-at, tabulate-cong, fill-next, fill-rest, fill-all}
 use Rattle.bits.specs.Packed.{bits, number, unpack, pad}
 use Rattle.bits.proofs.Packed.{length-bits, bits-mod, bits-low, bits-split, bits-number, number-bits-fit, length-unpack, length-pad, unpack-append}
 use Rattle.payload.specs.Payload.{ones, spread}
-use Rattle.payload.specs.Spreading.{marksBefore, markCounts, byteFor, nextPart, nextBytes, deposited}
+use Rattle.spread.specs.Spreading.{marksBefore, markCounts, byteFor, nextPart, nextBytes, deposited}
 use Rattle.payload.proofs.Payload.{ones-append, ones-le, length-spread, spread-append, spread-some}
 
 -- ---- one byte
 

@@ -1,9 +1,9 @@
--- `payload::four_bytes` meets its contract. Assumes nothing.
+-- `spread::four_bytes` meets its contract. Assumes nothing.
 use native.Mathlib.Omega.{arith}
 use borrow.Author.Needs.{needs}
-use Rattle.payload.proofs.Bytes.{four-bytes-from}
-use Rattle.payload.proofs.four_bytes.Statement.{statement}
-use Rattle.payload.proofs.four_bytes.Tie as tie
+use Rattle.spread.proofs.Reading.{four-bytes-from}
+use Rattle.spread.proofs.four_bytes.Statement.{statement}
+use Rattle.spread.proofs.four_bytes.Tie as tie
 
 add-if1 : tie.Need-add-if1
 add-if1 c = search needs

@@ -1,4 +1,4 @@
--- `payload::next_byte` meets its contract. Assumes nothing.
+-- `spread::next_byte` meets its contract. Assumes nothing.
 use mathlib.Core.Path.{_≡_, ap, _∙_}
 use Prim.Native.Nat.{_+_, _*_, _/_, _%_}
 use native.Mathlib.Omega.{arith}
@@ -7,8 +7,8 @@ use lib.ListN.{drop}
 use lib.Seq.{drop-drop}
 use Rattle.bits.specs.Packed.{unpack, pad}
 use Rattle.bits.proofs.Packed.{bits-from}
-use Rattle.payload.proofs.next_byte.Statement.{statement}
-use Rattle.payload.proofs.next_byte.Tie as tie
+use Rattle.spread.proofs.next_byte.Statement.{statement}
+use Rattle.spread.proofs.next_byte.Tie as tie
 
 eight-bytes-requires : tie.Need-eight-bytes-requires
 eight-bytes-requires c κs = search needs

@@ -1,4 +1,4 @@
--- `payload::eight_bytes` meets its contract. Assumes nothing.
+-- `spread::eight_bytes` meets its contract. Assumes nothing.
 use mathlib.Core.Path.{_≡_, sym, ap, _∙_}
 use Prim.Native.Nat.{_+_, _*_}
 use native.Mathlib.Omega.{arith}
@@ -7,8 +7,8 @@ use lib.ListN.{drop}
 use lib.Seq.{drop-drop}
 use Rattle.bits.specs.Packed.{unpack, pad}
 use Rattle.bits.proofs.Packed.{side-by-side}
-use Rattle.payload.proofs.eight_bytes.Statement.{statement}
-use Rattle.payload.proofs.eight_bytes.Tie as tie
+use Rattle.spread.proofs.eight_bytes.Statement.{statement}
+use Rattle.spread.proofs.eight_bytes.Tie as tie
 
 four-bytes-requires : tie.Need-four-bytes-requires
 four-bytes-requires c κs = search needs

@@ -1,4 +1,4 @@
--- `payload::mark_counts` meets its contract: the first i counts are stored. Assumes nothing.
+-- `spread::mark_counts` meets its contract: the first i counts are stored. Assumes nothing.
 use mathlib.Core.Path.{_≡_, refl, ap, _∙_}
 use Prim.Native.Nat.{ℕ, _-_, _≤_}
 use native.Mathlib.Omega.{arith}
@@ -8,11 +8,11 @@ use lib.ListN.{length, getD, set}
 use Rattle.base.specs.Bit.{tabulate}
 use Rattle.base.proofs.List.{filled, fill-next, fill-all}
 use Rattle.bits.specs.Packed.{bits}
 use Rattle.payload.specs.Payload.{ones}
-use Rattle.payload.specs.Spreading.{markCounts}
+use Rattle.spread.specs.Spreading.{markCounts}
 use Rattle.payload.proofs.Payload.{count-bits}
-use Rattle.payload.proofs.mark_counts.Statement.{statement}
-use Rattle.payload.proofs.mark_counts.Tie as tie
+use Rattle.spread.proofs.mark_counts.Statement.{statement}
+use Rattle.spread.proofs.mark_counts.Tie as tie
 
 abbrev Inv-loop : tie.InvT-loop
 Inv-loop mask counts₀ i₀ counts i = (i ≤ length mask) × (length counts ≡ length counts₀) × (counts ≡ filled (λ k. ones (bits 8 (getD mask k 0))) i counts₀)

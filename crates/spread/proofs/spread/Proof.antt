@@ -1,11 +1,11 @@
--- `payload::spread` meets its contract: what the three passes leave are the symbols. Assumes nothing.
+-- `spread::spread` meets its contract: what the three passes leave are the symbols. Assumes nothing.
 use mathlib.Core.Path.{ap, _∙_}
 use borrow.Author.Needs.{needs}
 use Rattle.bits.specs.Packed.{unpack}
-use Rattle.payload.specs.Spreading.{deposited}
-use Rattle.payload.proofs.Spreading.{spread-passes}
-use Rattle.payload.proofs.spread.Statement.{statement}
-use Rattle.payload.proofs.spread.Tie as tie
+use Rattle.spread.specs.Spreading.{deposited}
+use Rattle.spread.proofs.Spreading.{spread-passes}
+use Rattle.spread.proofs.spread.Statement.{statement}
+use Rattle.spread.proofs.spread.Tie as tie
 
 mark-counts-requires : tie.Need-mark-counts-requires
 mark-counts-requires c κs = search needs

@@ -1,4 +1,4 @@
--- `payload::deposit` meets its contract: the first i bytes are stored, and the others are as they were. Assumes nothing.
+-- `spread::deposit` meets its contract: the first i bytes are stored, and the others are as they were. Assumes nothing.
 use mathlib.Core.Path.{_≡_, refl, ap, _∙_}
 use Prim.Native.Nat.{ℕ, _-_, _≤_}
 use native.Mathlib.Omega.{arith}
@@ -7,10 +7,10 @@ use lib.ListN.{length, getD, set}
 use Rattle.base.specs.Bit.{tabulate}
 use Rattle.base.proofs.List.{filled, fill-next, fill-rest, fill-all}
 use Rattle.bits.specs.Packed.{bits, number}
 use Rattle.payload.specs.Payload.{spread}
-use Rattle.payload.specs.Spreading.{deposited}
-use Rattle.payload.proofs.deposit.Statement.{statement}
-use Rattle.payload.proofs.deposit.Tie as tie
+use Rattle.spread.specs.Spreading.{deposited}
+use Rattle.spread.proofs.deposit.Statement.{statement}
+use Rattle.spread.proofs.deposit.Tie as tie
 
 abbrev Inv-loop : tie.InvT-loop
 Inv-loop mask symbols₀ i₀ symbols i =
