@@ -22,11 +22,11 @@ use Rattle.folds.proofs.Pairs.{known-pays, free-pays, known-le, free-le}
 use Rattle.windows.specs.Paths.{FourOf, lastLeast, pathLeast}
 
 -- A level whose first half is known,
-known-level : (h n : ℕ) (y : ℕ → Bool) (m : Costs) → h ≤ n → knownFold h y m ≡ level h n y m
+pub known-level : (h n : ℕ) (y : ℕ → Bool) (m : Costs) → h ≤ n → knownFold h y m ≡ level h n y m
 known-level h n y m l = ap (λ c. elim c as (λ _. Costs) [ true ↦ knownFold h y m | false ↦ freeFold h m ]) (sym (le-leb h n l))
 
 -- and one whose first half is not.
-free-level : (h n : ℕ) (y : ℕ → Bool) (m : Costs) → n < h → freeFold h m ≡ level h n y m
+pub free-level : (h n : ℕ) (y : ℕ → Bool) (m : Costs) → n < h → freeFold h m ≡ level h n y m
 free-level h n y m l = ap (λ c. elim c as (λ _. Costs) [ true ↦ knownFold h y m | false ↦ freeFold h m ]) (sym (lt-leb h n l))
 
 -- The first two levels of a path after n known v, in each quarter.
@@ -50,7 +50,7 @@ module _ (n : ℕ) (y : ℕ → Bool) (m : Costs) where
       ∙ known-level 4 (n % 8) (λ i. y (n / 8 * 8 + i)) (level 8 n y m) (omega arith)
 
 -- One level of all, by costs that it leaves.
-next-level : (t k r : ℕ) (z x : ℕ → Bool) (m c : Costs) → k % 2 ^ t ≡ r → ((j : ℕ) → z (k / 2 ^ t * 2 ^ t + j) ≡ x j)
+pub next-level : (t k r : ℕ) (z x : ℕ → Bool) (m c : Costs) → k % 2 ^ t ≡ r → ((j : ℕ) → z (k / 2 ^ t * 2 ^ t + j) ≡ x j)
     → ((j : ℕ) (b : Bool) → j < 2 ^ t → c j b ≡ level (2 ^ t) k z m j b) → (b : Bool) → folded (suc t) k z m 0 b ≡ folded t r x c 0 b
 unfolding folded
 next-level t k r z x m c e w h b =

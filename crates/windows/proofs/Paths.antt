@@ -97,7 +97,7 @@ high-zero n d y l ly h =
     omega arith
 
 -- A low bit, counted from either end.
-low-bit : (n d y r : ℕ) → d ≤ n → r < d → bit (bits d y) r ≡ bit (bits n y) (n - d + r)
+pub low-bit : (n d y r : ℕ) → d ≤ n → r < d → bit (bits d y) r ≡ bit (bits n y) (n - d + r)
 low-bit n d y r l lr =
     let e : d - suc r ≡ n - suc (n - d + r) = omega arith in
     bits-at d y r lr ∙ ap (λ k. odd (y / 2 ^ k)) e ∙ sym (bits-at n y (n - d + r) (omega arith))

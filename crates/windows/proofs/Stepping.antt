@@ -27,7 +27,7 @@ widest-le (suc zero) = omega arith
 widest-le (suc (suc k)) = omega arith
 
 -- Before any symbol no relation reaches anywhere, so phase 0 reads no row of the phase before.
-started : (k s n : ℕ) → height (take s (relations k)) ≡ suc n → 0 < s
+pub started : (k s n : ℕ) → height (take s (relations k)) ≡ suc n → 0 < s
 unfolding height
 started k zero n h = absurd (omega arith)
 started k (suc s) n h = omega arith

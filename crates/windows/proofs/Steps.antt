@@ -35,7 +35,7 @@ abbrev vCode : Code
 vCode = matrix 16 16 (arikan 4)
 
 -- The number chosen has the bits that were chosen.
-chosen-bits : (us : List Bool) (b : Bool) (ws : List Bool) → length us + (1 + length ws) ≤ 16 → Choice us b ws (choiceNumber us b ws)
+pub chosen-bits : (us : List Bool) (b : Bool) (ws : List Bool) → length us + (1 + length ws) ≤ 16 → Choice us b ws (choiceNumber us b ws)
 chosen-bits us b ws l =
     let v = us ++ (b ∷ ws) ++ replicate (16 - (length us + (1 + length ws))) false in
     let e : length v ≡ 16 =

@@ -1,0 +1,306 @@
+// The least totals of a path in sixteen kernels side by side, folded from eight places in all lanes at once.
+ghost use mathlib.Core.Path.{_≡_};
+ghost use mathlib.Core.Bool.{Bool, true, false};
+ghost use Prim.Native.Nat.{ℕ, _+_, _*_, _/_, _%_, _≤_, _<_};
+ghost use Rattle.base.specs.Bit;
+ghost use Rattle.base.specs.Bit.{_⊕_};
+ghost use Rattle.bits.specs.Packed.{bits};
+ghost use Rattle.polar.specs.Fold.{freeFold, knownFold, level, folded};
+ghost use Rattle.folds.specs.Rows.{cell};
+ghost use Rattle.lane.specs.Lanes.{laneBits, laneBit, wordAt, nodeCosts, LanesWithin};
+ghost use Rattle.lane_paths.specs.Places.{twoCosts};
+use lane::Pair;
+
+// The node of place j for a path.
+fn node(other: u16, j: usize) -> usize
+    requires { ⌜ j < 8 ⌝ }
+    ensures { λ r. ⌜ r ≡ 8 * Bit.digit (Bit.bit (bits 16 other) j) + j ⌝ }
+{
+    if bits::word_bit(other as u32, j) {
+        8 + j
+    } else {
+        j
+    }
+}
+
+// The eight places of a path folded onto two in each lane, all second halves free,
+fn free_free(
+    flags: &[u16; 16],
+    nodes: &[[[u16; 16]; 2]; 16],
+    other: u16,
+    high: usize,
+    words: &[u16; 16],
+) -> [[u16; 16]; 4]
+    requires { ⌜ (now flags ≡ laneBits) × (high < 16) × LanesWithin 8191 (now nodes) ⌝ }
+    ensures { λ r. ⌜ ((i l : ℕ) (b : Bool) → i < 2 → l < 16 → twoCosts r l i b ≡ freeFold 2 (freeFold 4 (nodeCosts (now (nodes .entry)) (Bit.bit (bits 16 other)) l)) i b) ⌝ }
+{
+    let n0 = node(other, 0);
+    let n1 = node(other, 1);
+    let n2 = node(other, 2);
+    let n3 = node(other, 3);
+    let n4 = node(other, 4);
+    let n5 = node(other, 5);
+    let n6 = node(other, 6);
+    let n7 = node(other, 7);
+    let mut out = [[0u16; 16]; 4];
+    let mut l: usize = 0;
+    while l < 16 {
+        let p0 = lane::free(lane::at(&nodes[n0], l), lane::at(&nodes[n4], l));
+        let p2 = lane::free(lane::at(&nodes[n2], l), lane::at(&nodes[n6], l));
+        let even = lane::free(p0, p2);
+        out[0][l] = even.zero;
+        out[1][l] = even.one;
+        let p1 = lane::free(lane::at(&nodes[n1], l), lane::at(&nodes[n5], l));
+        let p3 = lane::free(lane::at(&nodes[n3], l), lane::at(&nodes[n7], l));
+        let odd = lane::free(p1, p3);
+        out[2][l] = odd.zero;
+        out[3][l] = odd.one;
+        l += 1;
+    }
+    out
+}
+
+// the second first half known,
+fn free_known(
+    flags: &[u16; 16],
+    nodes: &[[[u16; 16]; 2]; 16],
+    other: u16,
+    high: usize,
+    words: &[u16; 16],
+) -> [[u16; 16]; 4]
+    requires { ⌜ (now flags ≡ laneBits) × (high < 16) × LanesWithin 8191 (now nodes) ⌝ }
+    ensures { λ r. ⌜ ((i l : ℕ) (b : Bool) → i < 2 → l < 16 → twoCosts r l i b ≡ knownFold 2 (λ j. wordAt (now (words .entry)) l (high / 4 * 4 + j)) (freeFold 4 (nodeCosts (now (nodes .entry)) (Bit.bit (bits 16 other)) l)) i b) ⌝ }
+{
+    let x = words[high / 4 * 4];
+    let y = words[high / 4 * 4 + 1];
+    let n0 = node(other, 0);
+    let n1 = node(other, 1);
+    let n2 = node(other, 2);
+    let n3 = node(other, 3);
+    let n4 = node(other, 4);
+    let n5 = node(other, 5);
+    let n6 = node(other, 6);
+    let n7 = node(other, 7);
+    let mut out = [[0u16; 16]; 4];
+    let mut l: usize = 0;
+    while l < 16 {
+        let flag = flags[l];
+        let p0 = lane::free(lane::at(&nodes[n0], l), lane::at(&nodes[n4], l));
+        let p2 = lane::free(lane::at(&nodes[n2], l), lane::at(&nodes[n6], l));
+        let even = lane::known(lane::has(x, flag), p0, p2);
+        out[0][l] = even.zero;
+        out[1][l] = even.one;
+        let p1 = lane::free(lane::at(&nodes[n1], l), lane::at(&nodes[n5], l));
+        let p3 = lane::free(lane::at(&nodes[n3], l), lane::at(&nodes[n7], l));
+        let odd = lane::known(lane::has(y, flag), p1, p3);
+        out[2][l] = odd.zero;
+        out[3][l] = odd.one;
+        l += 1;
+    }
+    out
+}
+
+// the first one known,
+fn known_free(
+    flags: &[u16; 16],
+    nodes: &[[[u16; 16]; 2]; 16],
+    other: u16,
+    high: usize,
+    words: &[u16; 16],
+) -> [[u16; 16]; 4]
+    requires { ⌜ (now flags ≡ laneBits) × (high < 16) × LanesWithin 8191 (now nodes) ⌝ }
+    ensures { λ r. ⌜ ((i l : ℕ) (b : Bool) → i < 2 → l < 16 → twoCosts r l i b ≡ freeFold 2 (knownFold 4 (λ j. wordAt (now (words .entry)) l (high / 8 * 8 + j)) (nodeCosts (now (nodes .entry)) (Bit.bit (bits 16 other)) l)) i b) ⌝ }
+{
+    let w0 = words[high / 8 * 8];
+    let w1 = words[high / 8 * 8 + 1];
+    let w2 = words[high / 8 * 8 + 2];
+    let w3 = words[high / 8 * 8 + 3];
+    let n0 = node(other, 0);
+    let n1 = node(other, 1);
+    let n2 = node(other, 2);
+    let n3 = node(other, 3);
+    let n4 = node(other, 4);
+    let n5 = node(other, 5);
+    let n6 = node(other, 6);
+    let n7 = node(other, 7);
+    let mut out = [[0u16; 16]; 4];
+    let mut l: usize = 0;
+    while l < 16 {
+        let flag = flags[l];
+        let p0 = lane::known(
+            lane::has(w0, flag),
+            lane::at(&nodes[n0], l),
+            lane::at(&nodes[n4], l),
+        );
+        let p2 = lane::known(
+            lane::has(w2, flag),
+            lane::at(&nodes[n2], l),
+            lane::at(&nodes[n6], l),
+        );
+        let even = lane::free(p0, p2);
+        out[0][l] = even.zero;
+        out[1][l] = even.one;
+        let p1 = lane::known(
+            lane::has(w1, flag),
+            lane::at(&nodes[n1], l),
+            lane::at(&nodes[n5], l),
+        );
+        let p3 = lane::known(
+            lane::has(w3, flag),
+            lane::at(&nodes[n3], l),
+            lane::at(&nodes[n7], l),
+        );
+        let odd = lane::free(p1, p3);
+        out[2][l] = odd.zero;
+        out[3][l] = odd.one;
+        l += 1;
+    }
+    out
+}
+
+// or both.
+fn known_known(
+    flags: &[u16; 16],
+    nodes: &[[[u16; 16]; 2]; 16],
+    other: u16,
+    high: usize,
+    words: &[u16; 16],
+) -> [[u16; 16]; 4]
+    requires { ⌜ (now flags ≡ laneBits) × (high < 16) × LanesWithin 8191 (now nodes) ⌝ }
+    ensures { λ r. ⌜ ((i l : ℕ) (b : Bool) → i < 2 → l < 16 → twoCosts r l i b ≡ knownFold 2 (λ j. wordAt (now (words .entry)) l (high / 4 * 4 + j)) (knownFold 4 (λ j. wordAt (now (words .entry)) l (high / 8 * 8 + j)) (nodeCosts (now (nodes .entry)) (Bit.bit (bits 16 other)) l)) i b) ⌝ }
+{
+    let w0 = words[high / 8 * 8];
+    let w1 = words[high / 8 * 8 + 1];
+    let w2 = words[high / 8 * 8 + 2];
+    let w3 = words[high / 8 * 8 + 3];
+    let x = words[high / 4 * 4];
+    let y = words[high / 4 * 4 + 1];
+    let n0 = node(other, 0);
+    let n1 = node(other, 1);
+    let n2 = node(other, 2);
+    let n3 = node(other, 3);
+    let n4 = node(other, 4);
+    let n5 = node(other, 5);
+    let n6 = node(other, 6);
+    let n7 = node(other, 7);
+    let mut out = [[0u16; 16]; 4];
+    let mut l: usize = 0;
+    while l < 16 {
+        let flag = flags[l];
+        let p0 = lane::known(
+            lane::has(w0, flag),
+            lane::at(&nodes[n0], l),
+            lane::at(&nodes[n4], l),
+        );
+        let p2 = lane::known(
+            lane::has(w2, flag),
+            lane::at(&nodes[n2], l),
+            lane::at(&nodes[n6], l),
+        );
+        let even = lane::known(lane::has(x, flag), p0, p2);
+        out[0][l] = even.zero;
+        out[1][l] = even.one;
+        let p1 = lane::known(
+            lane::has(w1, flag),
+            lane::at(&nodes[n1], l),
+            lane::at(&nodes[n5], l),
+        );
+        let p3 = lane::known(
+            lane::has(w3, flag),
+            lane::at(&nodes[n3], l),
+            lane::at(&nodes[n7], l),
+        );
+        let odd = lane::known(lane::has(y, flag), p1, p3);
+        out[2][l] = odd.zero;
+        out[3][l] = odd.one;
+        l += 1;
+    }
+    out
+}
+
+// The eight places of a path folded onto two, by whether the first halves are known.
+fn onto_two(
+    flags: &[u16; 16],
+    nodes: &[[[u16; 16]; 2]; 16],
+    other: u16,
+    high: usize,
+    words: &[u16; 16],
+) -> [[u16; 16]; 4]
+    requires { ⌜ (now flags ≡ laneBits) × (high < 16) × LanesWithin 8191 (now nodes) ⌝ }
+    ensures { λ r. ⌜ ((i l : ℕ) (b : Bool) → i < 2 → l < 16 → twoCosts r l i b ≡ level 2 (high % 4) (λ j. wordAt (now (words .entry)) l (high / 4 * 4 + j)) (level 4 (high % 8) (λ j. wordAt (now (words .entry)) l (high / 8 * 8 + j)) (nodeCosts (now (nodes .entry)) (Bit.bit (bits 16 other)) l)) i b) ⌝ }
+{
+    if high % 8 < 2 {
+        return free_free(flags, nodes, other, high, words);
+    }
+    if high % 8 < 4 {
+        return free_known(flags, nodes, other, high, words);
+    }
+    if high % 8 < 6 {
+        return known_free(flags, nodes, other, high, words);
+    }
+    known_known(flags, nodes, other, high, words)
+}
+
+// Place i of the two, in lane l.
+fn of_two(two: &[[u16; 16]; 4], i: usize, l: usize) -> Pair
+    requires { ⌜ (i < 2) × (l < 16) ⌝ }
+    ensures { λ r. ⌜ (r .zero ≡ twoCosts (now (two .entry)) l i false) × (r .one ≡ twoCosts (now (two .entry)) l i true) ⌝ }
+{
+    let zero = two[2 * i][l];
+    let one = two[2 * i + 1][l];
+    Pair { zero, one }
+}
+
+// The two places folded onto one under a path's last v, the second one free,
+fn last_free(flags: &[u16; 16], own: u16, two: &[[u16; 16]; 4]) -> [[u16; 16]; 2]
+    requires { ⌜ (now flags ≡ laneBits) × ((i l : ℕ) (b : Bool) → i < 2 → l < 16 → twoCosts (now two) l i b ≤ 32767) ⌝ }
+    ensures { λ r. ⌜ ((l : ℕ) (b : Bool) → l < 16 → cell 0 r l b ≡ freeFold 1 (twoCosts (now (two .entry)) l) 0 (laneBit own l ⊕ b)) ⌝ }
+{
+    let mut out = [[0u16; 16]; 2];
+    let mut l: usize = 0;
+    while l < 16 {
+        let last = lane::free(of_two(two, 0, l), of_two(two, 1, l));
+        let r = lane::turned(lane::has(own, flags[l]), last);
+        out[0][l] = r.zero;
+        out[1][l] = r.one;
+        l += 1;
+    }
+    out
+}
+
+// or the first one known.
+fn last_known(flags: &[u16; 16], own: u16, plane: u16, two: &[[u16; 16]; 4]) -> [[u16; 16]; 2]
+    requires { ⌜ (now flags ≡ laneBits) × ((i l : ℕ) (b : Bool) → i < 2 → l < 16 → twoCosts (now two) l i b ≤ 32767) ⌝ }
+    ensures { λ r. ⌜ ((l : ℕ) (b : Bool) → l < 16 → cell 0 r l b ≡ knownFold 1 (λ _. laneBit plane l) (twoCosts (now (two .entry)) l) 0 (laneBit own l ⊕ b)) ⌝ }
+{
+    let mut out = [[0u16; 16]; 2];
+    let mut l: usize = 0;
+    while l < 16 {
+        let flag = flags[l];
+        let last = lane::known(lane::has(plane, flag), of_two(two, 0, l), of_two(two, 1, l));
+        let r = lane::turned(lane::has(own, flag), last);
+        out[0][l] = r.zero;
+        out[1][l] = r.one;
+        l += 1;
+    }
+    out
+}
+
+// The least totals of a path with symbol 0 and with symbol 1, from the nodes that it chooses: its words are those of the planes,
+// and the last v that it uses is v high.
+pub fn path_pair(
+    flags: &[u16; 16],
+    nodes: &[[[u16; 16]; 2]; 16],
+    other: u16,
+    high: usize,
+    words: &[u16; 16],
+) -> [[u16; 16]; 2]
+    requires { ⌜ (now flags ≡ laneBits) × (high < 16) × LanesWithin 8191 (now nodes) ⌝ }
+    ensures { λ r. ⌜ ((l : ℕ) (b : Bool) → l < 16 → cell 0 r l b ≡ folded 3 (high % 8) (λ j. wordAt (now (words .entry)) l (high / 8 * 8 + j)) (nodeCosts (now (nodes .entry)) (Bit.bit (bits 16 other)) l) 0 (wordAt (now (words .entry)) l high ⊕ b)) ⌝ }
+{
+    let two = onto_two(flags, nodes, other, high, words);
+    if high % 2 == 0 {
+        return last_free(flags, words[high], &two);
+    }
+    last_known(flags, words[high], words[high - 1], &two)
+}

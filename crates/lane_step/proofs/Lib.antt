@@ -1,0 +1,3 @@
+pub mod Before
+pub mod Fresh
+pub mod Stepping
