@@ -50,6 +50,14 @@ pub fn lesser(a: u16, b: u16) -> u16
     if a < b { a } else { b }
 }
 
+// The same of two numbers that fit fifteen bits: the processor's vectors have a minimum of signed numbers.
+fn lower(a: u16, b: u16) -> u16
+    requires { ⌜ (a ≤ 32767) × (b ≤ 32767) ⌝ }
+    ensures { λ r. ⌜ r ≡ min a b ⌝ }
+{
+    if (a as i16) < (b as i16) { a } else { b }
+}
+
 // One of two numbers.
 pub fn pick(c: bool, x: u16, y: u16) -> u16
     ensures { λ r. ⌜ r ≡ select x y c ⌝ }
@@ -69,18 +77,18 @@ pub fn at(place: &[[u16; 16]; 2], l: usize) -> Pair
 
 // Two places folded onto one, the second one's bit being free.
 pub fn free(p: Pair, q: Pair) -> Pair
-    requires { ⌜ (p .zero ≤ 32767) × (p .one ≤ 32767) × (q .zero ≤ 32767) × (q .one ≤ 32767) ⌝ }
+    requires { ⌜ (p .zero ≤ 16383) × (p .one ≤ 16383) × (q .zero ≤ 16383) × (q .one ≤ 16383) ⌝ }
     ensures { λ r. ⌜ (r .zero ≡ min (p .zero + q .zero) (p .one + q .one)) × (r .one ≡ min (p .one + q .zero) (p .zero + q .one)) ⌝ }
 {
     Pair {
-        zero: lesser(p.zero + q.zero, p.one + q.one),
-        one: lesser(p.one + q.zero, p.zero + q.one),
+        zero: lower(p.zero + q.zero, p.one + q.one),
+        one: lower(p.one + q.zero, p.zero + q.one),
     }
 }
 
 // Two places folded onto one, the first one's bit being known.
 pub fn known(bit: bool, p: Pair, q: Pair) -> Pair
-    requires { ⌜ (p .zero ≤ 32767) × (p .one ≤ 32767) × (q .zero ≤ 32767) × (q .one ≤ 32767) ⌝ }
+    requires { ⌜ (p .zero ≤ 16383) × (p .one ≤ 16383) × (q .zero ≤ 16383) × (q .one ≤ 16383) ⌝ }
     ensures { λ r. ⌜ (r .zero ≡ select (p .zero) (p .one) bit + q .zero) × (r .one ≡ select (p .one) (p .zero) bit + q .one) ⌝ }
 {
     Pair {

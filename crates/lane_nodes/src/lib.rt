@@ -12,7 +12,7 @@ ghost use Rattle.lane.specs.Lanes.{laneBits, laneBit, wordAt, laneCosts, PairWi
 
 // Two places folded onto one in each lane, the second one's bits being free.
 fn free_place(p: &[[u16; 16]; 2], q: &[[u16; 16]; 2]) -> [[u16; 16]; 2]
-    requires { ⌜ PairWithin 32767 (now p) × PairWithin 32767 (now q) ⌝ }
+    requires { ⌜ PairWithin 16383 (now p) × PairWithin 16383 (now q) ⌝ }
     ensures { λ r. ⌜ ((l : ℕ) (b : Bool) → l < 16 → cell 0 r l b ≡ min (cell 0 (now (p .entry)) l b + cell 0 (now (q .entry)) l false) (cell 0 (now (p .entry)) l (not b) + cell 0 (now (q .entry)) l true)) ⌝ }
 {
     let mut out = [[0u16; 16]; 2];
@@ -33,7 +33,7 @@ fn known_place(
     p: &[[u16; 16]; 2],
     q: &[[u16; 16]; 2],
 ) -> [[u16; 16]; 2]
-    requires { ⌜ (now flags ≡ laneBits) × PairWithin 32767 (now p) × PairWithin 32767 (now q) ⌝ }
+    requires { ⌜ (now flags ≡ laneBits) × PairWithin 16383 (now p) × PairWithin 16383 (now q) ⌝ }
     ensures { λ r. ⌜ ((l : ℕ) (b : Bool) → l < 16 → cell 0 r l b ≡ cell 0 (now (p .entry)) l (laneBit plane l ⊕ b) + cell 0 (now (q .entry)) l b) ⌝ }
 {
     let mut out = [[0u16; 16]; 2];
@@ -49,7 +49,7 @@ fn known_place(
 
 // Sixteen places folded onto eight, the second ones free.
 pub fn free_eight(costs: &[[[u16; 16]; 2]; 16]) -> [[[u16; 16]; 2]; 16]
-    requires { ⌜ LanesWithin 32767 (now costs) ⌝ }
+    requires { ⌜ LanesWithin 16383 (now costs) ⌝ }
     ensures nodes { λ r. ⌜ ((j l : ℕ) (b : Bool) → j < 8 → l < 16 → laneCosts r l j b ≡ freeFold 8 (laneCosts (now (costs .entry)) l) j b) ⌝ }
     ensures within { λ r. ⌜ ((n : ℕ) → LanesWithin n (now (costs .entry)) → LanesWithin (n + n) r) ⌝ }
 {
@@ -70,7 +70,7 @@ pub fn known_eight(
     both: bool,
     costs: &[[[u16; 16]; 2]; 16],
 ) -> [[[u16; 16]; 2]; 16]
-    requires { ⌜ (now flags ≡ laneBits) × LanesWithin 32767 (now costs) ⌝ }
+    requires { ⌜ (now flags ≡ laneBits) × LanesWithin 16383 (now costs) ⌝ }
     ensures nodes { λ r. ⌜ ((j l : ℕ) (b : Bool) → j < 8 → l < 16 → laneCosts r l j b ≡ knownFold 8 (wordAt (now (words .entry)) l) (laneCosts (now (costs .entry)) l) j b) ⌝ }
     ensures others { λ r. ⌜ (both ≡ true → (j l : ℕ) (b : Bool) → j < 8 → l < 16 → laneCosts r l (8 + j) b ≡ knownFold 8 (λ i. not (wordAt (now (words .entry)) l i)) (laneCosts (now (costs .entry)) l) j b) ⌝ }
     ensures within { λ r. ⌜ ((n : ℕ) → LanesWithin n (now (costs .entry)) → LanesWithin (n + n) r) ⌝ }

@@ -66,5 +66,5 @@ module _ (n : ℕ) (y : ℕ → Bool) (m : Costs) where
   two-le b most = level-le 2 (n % 4) y2 four (b + b) (level-le 4 (n % 8) y4 m b most)
 
 -- A node's costs are within the bound of all.
-pub node-le : (nodes : List (List (List ℕ))) (f : ℕ → Bool) (l : ℕ) → LanesWithin 8191 nodes → l < 16 → (j : ℕ) (b : Bool) → j < 8 → nodeCosts nodes f l j b ≤ 8191
+pub node-le : (nodes : List (List (List ℕ))) (f : ℕ → Bool) (l : ℕ) → LanesWithin 4095 nodes → l < 16 → (j : ℕ) (b : Bool) → j < 8 → nodeCosts nodes f l j b ≤ 4095
 node-le nodes f l most ll j b lj = most (8 * digit (f j) + j) (node-of f j _ lj refl .inside) l b ll

@@ -29,7 +29,7 @@ node-of f j n l e = record { is = e; inside = omega (arith, digit-le (f j)) }
 
 -- The nodes of all eight places, and that no node pays much.
 pub record Nodes (nodes : List (List (List ℕ))) (f : ℕ → Bool) (n0 n1 n2 n3 n4 n5 n6 n7 : ℕ) : Type 0 where
-  pub most : LanesWithin 8191 nodes
+  pub most : LanesWithin 4095 nodes
   pub first : NodeOf f 0 n0
   pub second : NodeOf f 1 n1
   pub third : NodeOf f 2 n2
@@ -48,8 +48,8 @@ pub record Held (m : Costs) (j n x y : ℕ) : Type 0 where
   pub one-le : y ≤ n
 
 -- Of a node,
-node-held : (nodes : List (List (List ℕ))) (f : ℕ → Bool) (l j n x y : ℕ) → LanesWithin 8191 nodes → l < 16 → NodeOf f j n
-    → (x ≡ cell 0 (getD nodes n []) l false) × (y ≡ cell 0 (getD nodes n []) l true) → Held (nodeCosts nodes f l) j 8191 x y
+node-held : (nodes : List (List (List ℕ))) (f : ℕ → Bool) (l j n x y : ℕ) → LanesWithin 4095 nodes → l < 16 → NodeOf f j n
+    → (x ≡ cell 0 (getD nodes n []) l false) × (y ≡ cell 0 (getD nodes n []) l true) → Held (nodeCosts nodes f l) j 4095 x y
 node-held nodes f l j n x y most ll o e =
     let same : (b : Bool) → cell 0 (getD nodes n []) l b ≡ nodeCosts nodes f l j b = λ b. ap (λ n. cell 0 (getD nodes n []) l b) (o .is) in
     record {
@@ -59,28 +59,28 @@ node-held nodes f l j n x y most ll o e =
     }
 
 module _ {nodes : List (List (List ℕ))} {f : ℕ → Bool} {n0 n1 n2 n3 n4 n5 n6 n7 : ℕ} (o : Nodes nodes f n0 n1 n2 n3 n4 n5 n6 n7) (l : ℕ) (ll : l < 16) (x y : ℕ) where
-  pub node-0 : (x ≡ cell 0 (getD nodes n0 []) l false) × (y ≡ cell 0 (getD nodes n0 []) l true) → Held (nodeCosts nodes f l) 0 8191 x y
+  pub node-0 : (x ≡ cell 0 (getD nodes n0 []) l false) × (y ≡ cell 0 (getD nodes n0 []) l true) → Held (nodeCosts nodes f l) 0 4095 x y
   node-0 = node-held nodes f l 0 n0 x y (o .most) ll (o .first)
 
-  pub node-1 : (x ≡ cell 0 (getD nodes n1 []) l false) × (y ≡ cell 0 (getD nodes n1 []) l true) → Held (nodeCosts nodes f l) 1 8191 x y
+  pub node-1 : (x ≡ cell 0 (getD nodes n1 []) l false) × (y ≡ cell 0 (getD nodes n1 []) l true) → Held (nodeCosts nodes f l) 1 4095 x y
   node-1 = node-held nodes f l 1 n1 x y (o .most) ll (o .second)
 
-  pub node-2 : (x ≡ cell 0 (getD nodes n2 []) l false) × (y ≡ cell 0 (getD nodes n2 []) l true) → Held (nodeCosts nodes f l) 2 8191 x y
+  pub node-2 : (x ≡ cell 0 (getD nodes n2 []) l false) × (y ≡ cell 0 (getD nodes n2 []) l true) → Held (nodeCosts nodes f l) 2 4095 x y
   node-2 = node-held nodes f l 2 n2 x y (o .most) ll (o .third)
 
-  pub node-3 : (x ≡ cell 0 (getD nodes n3 []) l false) × (y ≡ cell 0 (getD nodes n3 []) l true) → Held (nodeCosts nodes f l) 3 8191 x y
+  pub node-3 : (x ≡ cell 0 (getD nodes n3 []) l false) × (y ≡ cell 0 (getD nodes n3 []) l true) → Held (nodeCosts nodes f l) 3 4095 x y
   node-3 = node-held nodes f l 3 n3 x y (o .most) ll (o .fourth)
 
-  pub node-4 : (x ≡ cell 0 (getD nodes n4 []) l false) × (y ≡ cell 0 (getD nodes n4 []) l true) → Held (nodeCosts nodes f l) 4 8191 x y
+  pub node-4 : (x ≡ cell 0 (getD nodes n4 []) l false) × (y ≡ cell 0 (getD nodes n4 []) l true) → Held (nodeCosts nodes f l) 4 4095 x y
   node-4 = node-held nodes f l 4 n4 x y (o .most) ll (o .fifth)
 
-  pub node-5 : (x ≡ cell 0 (getD nodes n5 []) l false) × (y ≡ cell 0 (getD nodes n5 []) l true) → Held (nodeCosts nodes f l) 5 8191 x y
+  pub node-5 : (x ≡ cell 0 (getD nodes n5 []) l false) × (y ≡ cell 0 (getD nodes n5 []) l true) → Held (nodeCosts nodes f l) 5 4095 x y
   node-5 = node-held nodes f l 5 n5 x y (o .most) ll (o .sixth)
 
-  pub node-6 : (x ≡ cell 0 (getD nodes n6 []) l false) × (y ≡ cell 0 (getD nodes n6 []) l true) → Held (nodeCosts nodes f l) 6 8191 x y
+  pub node-6 : (x ≡ cell 0 (getD nodes n6 []) l false) × (y ≡ cell 0 (getD nodes n6 []) l true) → Held (nodeCosts nodes f l) 6 4095 x y
   node-6 = node-held nodes f l 6 n6 x y (o .most) ll (o .seventh)
 
-  pub node-7 : (x ≡ cell 0 (getD nodes n7 []) l false) × (y ≡ cell 0 (getD nodes n7 []) l true) → Held (nodeCosts nodes f l) 7 8191 x y
+  pub node-7 : (x ≡ cell 0 (getD nodes n7 []) l false) × (y ≡ cell 0 (getD nodes n7 []) l true) → Held (nodeCosts nodes f l) 7 4095 x y
   node-7 = node-held nodes f l 7 n7 x y (o .most) ll (o .eighth)
 
 -- and of two places folded onto one.
@@ -102,7 +102,7 @@ module _ (h j : ℕ) (m : Costs) (n p q s t u v : ℕ) (first : Held m j n p q) 
       }
 
 -- What the folds ask of two places.
-pub small : (m : Costs) (i j n p q s t : ℕ) → n ≤ 32767 → Held m i n p q → Held m j n s t → (p ≤ 32767) × (q ≤ 32767) × (s ≤ 32767) × (t ≤ 32767)
+pub small : (m : Costs) (i j n p q s t : ℕ) → n ≤ 16383 → Held m i n p q → Held m j n s t → (p ≤ 16383) × (q ≤ 16383) × (s ≤ 16383) × (t ≤ 16383)
 small m i j n p q s t l a b =
     (omega (arith, a .zero-le), omega (arith, a .one-le), omega (arith, b .zero-le), omega (arith, b .one-le))
 
@@ -123,8 +123,8 @@ plane-first words n = ap (λ i. getD words i 0) (omega arith)
 -- ---- the last fold
 
 -- What the two places that are left pay,
-pub two-held : (rows : List (List ℕ)) (l i x y : ℕ) → ((i l : ℕ) (b : Bool) → i < 2 → l < 16 → twoCosts rows l i b ≤ 32767) → i < 2 → l < 16
-    → Pays (twoCosts rows l) i x y → Held (twoCosts rows l) i 32767 x y
+pub two-held : (rows : List (List ℕ)) (l i x y : ℕ) → ((i l : ℕ) (b : Bool) → i < 2 → l < 16 → twoCosts rows l i b ≤ 16383) → i < 2 → l < 16
+    → Pays (twoCosts rows l) i x y → Held (twoCosts rows l) i 16383 x y
 two-held rows l i x y most li ll p =
     record { pays = p; zero-le = omega (arith, p .0, most i l false li ll); one-le = omega (arith, p .1, most i l true li ll) }
 

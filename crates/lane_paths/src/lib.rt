@@ -31,7 +31,7 @@ fn free_free(
     high: usize,
     words: &[u16; 16],
 ) -> [[u16; 16]; 4]
-    requires { ⌜ (now flags ≡ laneBits) × (high < 16) × LanesWithin 8191 (now nodes) ⌝ }
+    requires { ⌜ (now flags ≡ laneBits) × (high < 16) × LanesWithin 4095 (now nodes) ⌝ }
     ensures { λ r. ⌜ ((i l : ℕ) (b : Bool) → i < 2 → l < 16 → twoCosts r l i b ≡ freeFold 2 (freeFold 4 (nodeCosts (now (nodes .entry)) (Bit.bit (bits 16 other)) l)) i b) ⌝ }
 {
     let n0 = node(other, 0);
@@ -68,7 +68,7 @@ fn free_known(
     high: usize,
     words: &[u16; 16],
 ) -> [[u16; 16]; 4]
-    requires { ⌜ (now flags ≡ laneBits) × (high < 16) × LanesWithin 8191 (now nodes) ⌝ }
+    requires { ⌜ (now flags ≡ laneBits) × (high < 16) × LanesWithin 4095 (now nodes) ⌝ }
     ensures { λ r. ⌜ ((i l : ℕ) (b : Bool) → i < 2 → l < 16 → twoCosts r l i b ≡ knownFold 2 (λ j. wordAt (now (words .entry)) l (high / 4 * 4 + j)) (freeFold 4 (nodeCosts (now (nodes .entry)) (Bit.bit (bits 16 other)) l)) i b) ⌝ }
 {
     let x = words[high / 4 * 4];
@@ -108,7 +108,7 @@ fn known_free(
     high: usize,
     words: &[u16; 16],
 ) -> [[u16; 16]; 4]
-    requires { ⌜ (now flags ≡ laneBits) × (high < 16) × LanesWithin 8191 (now nodes) ⌝ }
+    requires { ⌜ (now flags ≡ laneBits) × (high < 16) × LanesWithin 4095 (now nodes) ⌝ }
     ensures { λ r. ⌜ ((i l : ℕ) (b : Bool) → i < 2 → l < 16 → twoCosts r l i b ≡ freeFold 2 (knownFold 4 (λ j. wordAt (now (words .entry)) l (high / 8 * 8 + j)) (nodeCosts (now (nodes .entry)) (Bit.bit (bits 16 other)) l)) i b) ⌝ }
 {
     let w0 = words[high / 8 * 8];
@@ -166,7 +166,7 @@ fn known_known(
     high: usize,
     words: &[u16; 16],
 ) -> [[u16; 16]; 4]
-    requires { ⌜ (now flags ≡ laneBits) × (high < 16) × LanesWithin 8191 (now nodes) ⌝ }
+    requires { ⌜ (now flags ≡ laneBits) × (high < 16) × LanesWithin 4095 (now nodes) ⌝ }
     ensures { λ r. ⌜ ((i l : ℕ) (b : Bool) → i < 2 → l < 16 → twoCosts r l i b ≡ knownFold 2 (λ j. wordAt (now (words .entry)) l (high / 4 * 4 + j)) (knownFold 4 (λ j. wordAt (now (words .entry)) l (high / 8 * 8 + j)) (nodeCosts (now (nodes .entry)) (Bit.bit (bits 16 other)) l)) i b) ⌝ }
 {
     let w0 = words[high / 8 * 8];
@@ -226,7 +226,7 @@ fn onto_two(
     high: usize,
     words: &[u16; 16],
 ) -> [[u16; 16]; 4]
-    requires { ⌜ (now flags ≡ laneBits) × (high < 16) × LanesWithin 8191 (now nodes) ⌝ }
+    requires { ⌜ (now flags ≡ laneBits) × (high < 16) × LanesWithin 4095 (now nodes) ⌝ }
     ensures { λ r. ⌜ ((i l : ℕ) (b : Bool) → i < 2 → l < 16 → twoCosts r l i b ≡ level 2 (high % 4) (λ j. wordAt (now (words .entry)) l (high / 4 * 4 + j)) (level 4 (high % 8) (λ j. wordAt (now (words .entry)) l (high / 8 * 8 + j)) (nodeCosts (now (nodes .entry)) (Bit.bit (bits 16 other)) l)) i b) ⌝ }
 {
     if high % 8 < 2 {
@@ -253,7 +253,7 @@ fn of_two(two: &[[u16; 16]; 4], i: usize, l: usize) -> Pair
 
 // The two places folded onto one under a path's last v, the second one free,
 fn last_free(flags: &[u16; 16], own: u16, two: &[[u16; 16]; 4]) -> [[u16; 16]; 2]
-    requires { ⌜ (now flags ≡ laneBits) × ((i l : ℕ) (b : Bool) → i < 2 → l < 16 → twoCosts (now two) l i b ≤ 32767) ⌝ }
+    requires { ⌜ (now flags ≡ laneBits) × ((i l : ℕ) (b : Bool) → i < 2 → l < 16 → twoCosts (now two) l i b ≤ 16383) ⌝ }
     ensures { λ r. ⌜ ((l : ℕ) (b : Bool) → l < 16 → cell 0 r l b ≡ freeFold 1 (twoCosts (now (two .entry)) l) 0 (laneBit own l ⊕ b)) ⌝ }
 {
     let mut out = [[0u16; 16]; 2];
@@ -270,7 +270,7 @@ fn last_free(flags: &[u16; 16], own: u16, two: &[[u16; 16]; 4]) -> [[u16; 16]; 2
 
 // or the first one known.
 fn last_known(flags: &[u16; 16], own: u16, plane: u16, two: &[[u16; 16]; 4]) -> [[u16; 16]; 2]
-    requires { ⌜ (now flags ≡ laneBits) × ((i l : ℕ) (b : Bool) → i < 2 → l < 16 → twoCosts (now two) l i b ≤ 32767) ⌝ }
+    requires { ⌜ (now flags ≡ laneBits) × ((i l : ℕ) (b : Bool) → i < 2 → l < 16 → twoCosts (now two) l i b ≤ 16383) ⌝ }
     ensures { λ r. ⌜ ((l : ℕ) (b : Bool) → l < 16 → cell 0 r l b ≡ knownFold 1 (λ _. laneBit plane l) (twoCosts (now (two .entry)) l) 0 (laneBit own l ⊕ b)) ⌝ }
 {
     let mut out = [[0u16; 16]; 2];
@@ -295,7 +295,7 @@ pub fn path_pair(
     high: usize,
     words: &[u16; 16],
 ) -> [[u16; 16]; 2]
-    requires { ⌜ (now flags ≡ laneBits) × (high < 16) × LanesWithin 8191 (now nodes) ⌝ }
+    requires { ⌜ (now flags ≡ laneBits) × (high < 16) × LanesWithin 4095 (now nodes) ⌝ }
     ensures { λ r. ⌜ ((l : ℕ) (b : Bool) → l < 16 → cell 0 r l b ≡ folded 3 (high % 8) (λ j. wordAt (now (words .entry)) l (high / 8 * 8 + j)) (nodeCosts (now (nodes .entry)) (Bit.bit (bits 16 other)) l) 0 (wordAt (now (words .entry)) l high ⊕ b)) ⌝ }
 {
     let two = onto_two(flags, nodes, other, high, words);

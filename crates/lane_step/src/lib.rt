@@ -22,7 +22,7 @@ fn path_totals(
     words: [u16; 16],
     w: usize,
 ) -> [[u16; 16]; 2]
-    requires { ⌜ (now flags ≡ laneBits) × (phase ≤ high) × (high < 16) × (high - phase ≤ 4) × LanesWithin 8191 (now nodes) × (w < 16) ⌝ }
+    requires { ⌜ (now flags ≡ laneBits) × (phase ≤ high) × (high < 16) × (high - phase ≤ 4) × LanesWithin 4095 (now nodes) × (w < 16) ⌝ }
     ensures { λ r. ⌜ ((l : ℕ) (b : Bool) → l < 16 → cell 0 r l b ≡ pathTotal (now (table .entry)) phase high words (now (nodes .entry)) w l b) ⌝ }
 {
     let c = lane_words::window_word(table, phase, false, high - phase, w);
@@ -41,7 +41,7 @@ fn all_paths(
     words: [u16; 16],
     rows: &mut [[[u16; 16]; 2]; 16],
 )
-    requires { ⌜ (now flags ≡ laneBits) × (phase ≤ high) × (high < 16) × (high - phase ≤ 4) × LanesWithin 8191 (now nodes) × (length (now rows) ≡ 16) ⌝ }
+    requires { ⌜ (now flags ≡ laneBits) × (phase ≤ high) × (high < 16) × (high - phase ≤ 4) × LanesWithin 4095 (now nodes) × (length (now rows) ≡ 16) ⌝ }
     ensures room { λ _. ⌜ length (now (rows .exit)) ≡ 16 ⌝ }
     ensures entries { λ _. ⌜ ((w l : ℕ) (b : Bool) → w < 2 ^ (high - phase) → l < 16 → laneCosts (now (rows .exit)) l w b ≡ pathTotal (now (table .entry)) phase high words (now (nodes .entry)) w l b) ⌝ }
 {
@@ -99,7 +99,7 @@ pub fn step(
 )
     requires { ⌜ (kernel < 3) × (phase < 16) × (now flags ≡ laneBits) ⌝ }
     requires { ⌜ (shape ≡ getD (getD shapeTable kernel []) phase []) × (now table ≡ pathRows kernel phase) ⌝ }
-    requires { ⌜ LanesWithin 4095 (now costs) × LanesWithin 8191 (now halves) × Halves (now costs) (now halves) ⌝ }
+    requires { ⌜ LanesWithin 2047 (now costs) × LanesWithin 4095 (now halves) × Halves (now costs) (now halves) ⌝ }
     requires { ⌜ (length (now rows) ≡ 16) × (0 < phase → KeptLanes kernel (now costs) (now planes) phase (now rows)) ⌝ }
     ensures room { λ _. ⌜ length (now (rows .exit)) ≡ 16 ⌝ }
     ensures held { λ _. ⌜ HeldLanes kernel (now (costs .entry)) (now (planes .entry)) phase (now (rows .exit)) ⌝ }

@@ -13,8 +13,8 @@ add-t5 : tie.Need-add-t5
 add-t5 c =
     let s = c .before .before in
     let p = s .args .p in
-    let one = select-le (p .zero) (p .one) 32767 (s .args .bit) (s .pre .0) (s .pre .1) in
-    let other = select-le (p .one) (p .zero) 32767 (s .args .bit) (s .pre .1) (s .pre .0) in
+    let one = select-le (p .zero) (p .one) 16383 (s .args .bit) (s .pre .0) (s .pre .1) in
+    let other = select-le (p .one) (p .zero) 16383 (s .args .bit) (s .pre .1) (s .pre .0) in
     record { fits = omega (arith, c .before .pick .ensures, one, other, s .pre .2) }
 
 pick-requires-2 : tie.Need-pick-requires-2
@@ -24,8 +24,8 @@ add-t7 : tie.Need-add-t7
 add-t7 c =
     let s = c .before .before .before .before in
     let p = s .args .p in
-    let one = select-le (p .zero) (p .one) 32767 (s .args .bit) (s .pre .0) (s .pre .1) in
-    let other = select-le (p .one) (p .zero) 32767 (s .args .bit) (s .pre .1) (s .pre .0) in
+    let one = select-le (p .zero) (p .one) 16383 (s .args .bit) (s .pre .0) (s .pre .1) in
+    let other = select-le (p .one) (p .zero) 16383 (s .args .bit) (s .pre .1) (s .pre .0) in
     record { fits = omega (arith, c .before .pick2 .ensures, one, other, s .pre .3) }
 
 returns : tie.Need-returns

@@ -32,8 +32,8 @@ free-requires c κs =
     let s = c .before .before .before .before in
     let m = laneCosts (s .args .p .now ∷ s .args .q .now ∷ []) (k .l) in
     let ll : k .l < 16 = search needs in
-    let p = pays-within m 0 _ _ 32767 (λ b. s .pre .0 (k .l) b ll) (c .before .at .ensures) in
-    let q = pays-within m 1 _ _ 32767 (λ b. s .pre .1 (k .l) b ll) (c .at2 .ensures) in
+    let p = pays-within m 0 _ _ 16383 (λ b. s .pre .0 (k .l) b ll) (c .before .at .ensures) in
+    let q = pays-within m 1 _ _ 16383 (λ b. s .pre .1 (k .l) b ll) (c .at2 .ensures) in
     (p .0, p .1, q .0, q .1)
 
 mul-out : tie.Need-mul-out Inv-loop μ-loop

@@ -28,7 +28,7 @@ of-two-requires-2 c κs = search needs
 
 -- What was read of the two places.
 read : (c : tie.After-of-two2 Inv-loop μ-loop) → (let k = c .before .before .before in let m = twoCosts (k .before .args .two .now) (k .loop .l) in
-    Held m 0 32767 (c .before .of-two .result .zero) (c .before .of-two .result .one) × Held m 1 32767 (c .of-two2 .result .zero) (c .of-two2 .result .one))
+    Held m 0 16383 (c .before .of-two .result .zero) (c .before .of-two .result .one) × Held m 1 16383 (c .of-two2 .result .zero) (c .of-two2 .result .one))
 read c =
     let k = c .before .before .before in
     let ll = c .before .before .loop-test .taken in
@@ -37,7 +37,7 @@ read c =
     (two-held rows (k .loop .l) 0 _ _ most (omega arith) ll (c .before .of-two .ensures), two-held rows (k .loop .l) 1 _ _ most (omega arith) ll (c .of-two2 .ensures))
 
 free-requires : tie.Need-free-requires Inv-loop μ-loop
-free-requires c κs = small _ 0 1 32767 _ _ _ _ (omega arith) (read c .0) (read c .1)
+free-requires c κs = small _ 0 1 16383 _ _ _ _ (omega arith) (read c .0) (read c .1)
 
 mul-has : tie.Need-mul-has Inv-loop μ-loop
 mul-has c = search needs
@@ -81,7 +81,7 @@ loop-again c =
     let a = k .before .args in
     let ll = c .before .before .before .before .before .before .loop-test .taken in
     let d = c .before .before .before in
-    let fold = free-held 1 0 _ 32767 _ _ _ _ _ _ (read (d .before) .0) (read (d .before) .1) (d .free .ensures) in
+    let fold = free-held 1 0 _ 16383 _ _ _ _ _ _ (read (d .before) .0) (read (d .before) .1) (d .free .ensures) in
     let own = lane-bit (a .flags .now) (a .own) (k .loop .l) _ (k .before .pre .0) ll (c .before .has .ensures) in
     let r = turned-pays _ 0 _ _ _ _ _ _ _ fold own (c .turned .ensures) in
     (search (needs, ll), fill-both 0 16 (k .loop .l) _ (k .loop .out) (k .loop .inv .1) _ _ ll (r .0) (r .1))

@@ -37,7 +37,7 @@ of-two-requires-2 c κs = search needs
 
 -- What was read of the two places.
 read : (c : tie.After-of-two2 Inv-loop μ-loop) → (let k = c .before .before .before .before .before in let m = twoCosts (k .before .args .two .now) (k .loop .l) in
-    Held m 0 32767 (c .before .of-two .result .zero) (c .before .of-two .result .one) × Held m 1 32767 (c .of-two2 .result .zero) (c .of-two2 .result .one))
+    Held m 0 16383 (c .before .of-two .result .zero) (c .before .of-two .result .one) × Held m 1 16383 (c .of-two2 .result .zero) (c .of-two2 .result .one))
 read c =
     let k = c .before .before .before .before .before in
     let ll = c .before .before .before .before .loop-test .taken in
@@ -46,7 +46,7 @@ read c =
     (two-held rows (k .loop .l) 0 _ _ most (omega arith) ll (c .before .of-two .ensures), two-held rows (k .loop .l) 1 _ _ most (omega arith) ll (c .of-two2 .ensures))
 
 known-requires : tie.Need-known-requires Inv-loop μ-loop
-known-requires c κs = small _ 0 1 32767 _ _ _ _ (omega arith) (read c .0) (read c .1)
+known-requires c κs = small _ 0 1 16383 _ _ _ _ (omega arith) (read c .0) (read c .1)
 
 has-requires-2 : tie.Need-has-requires-2 Inv-loop μ-loop
 has-requires-2 c κs = search needs
@@ -85,7 +85,7 @@ loop-again c =
     let ll = c .before .before .before .before .before .before .before .loop-test .taken in
     let d = c .before .before in
     let e = lane-bit (a .flags .now) (a .plane) (k .loop .l) _ (k .before .pre .0) ll (c .before .before .before .before .before .has .ensures) in
-    let fold = known-held 1 0 _ 32767 _ _ _ _ _ _ (read (d .before) .0) (read (d .before) .1) (λ _. laneBit (a .plane) (k .loop .l)) _ e (d .known .ensures) in
+    let fold = known-held 1 0 _ 16383 _ _ _ _ _ _ (read (d .before) .0) (read (d .before) .1) (λ _. laneBit (a .plane) (k .loop .l)) _ e (d .known .ensures) in
     let own = lane-bit (a .flags .now) (a .own) (k .loop .l) _ (k .before .pre .0) ll (c .before .has2 .ensures) in
     let r = turned-pays _ 0 _ _ _ _ _ _ _ fold own (c .turned .ensures) in
     (search (needs, ll), fill-both 0 16 (k .loop .l) _ (k .loop .out) (k .loop .inv .1) _ _ ll (r .0) (r .1))

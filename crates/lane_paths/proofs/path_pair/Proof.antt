@@ -24,7 +24,7 @@ last-free-requires c κs =
     let s = c .before .before .before .before in
     let a = s .args in (
       s .pre .0,
-      λ i l b li ll. rw (c .before .before .before .onto-two .ensures i l b li ll) (omega (arith, two-le (a .high) (wordAt (a .words .now) l) (nodeCosts (a .nodes .now) (bit (bits 16 (a .other))) l) 8191 (node-le (a .nodes .now) (bit (bits 16 (a .other))) l (s .pre .2) ll) i b li)),
+      λ i l b li ll. rw (c .before .before .before .onto-two .ensures i l b li ll) (omega (arith, two-le (a .high) (wordAt (a .words .now) l) (nodeCosts (a .nodes .now) (bit (bits 16 (a .other))) l) 4095 (node-le (a .nodes .now) (bit (bits 16 (a .other))) l (s .pre .2) ll) i b li)),
     )
 
 returns : tie.Need-returns
@@ -54,7 +54,7 @@ last-known-requires c κs =
     let s = c .before .before .before .before .before in
     let a = s .args in (
       s .pre .0,
-      λ i l b li ll. rw (c .before .before .before .before .onto-two .ensures i l b li ll) (omega (arith, two-le (a .high) (wordAt (a .words .now) l) (nodeCosts (a .nodes .now) (bit (bits 16 (a .other))) l) 8191 (node-le (a .nodes .now) (bit (bits 16 (a .other))) l (s .pre .2) ll) i b li)),
+      λ i l b li ll. rw (c .before .before .before .before .onto-two .ensures i l b li ll) (omega (arith, two-le (a .high) (wordAt (a .words .now) l) (nodeCosts (a .nodes .now) (bit (bits 16 (a .other))) l) 4095 (node-le (a .nodes .now) (bit (bits 16 (a .other))) l (s .pre .2) ll) i b li)),
     )
 
 returns-2 : tie.Need-returns-2

@@ -79,7 +79,7 @@ all-paths-requires-2 c κs = let k = c .before .before in
     let a = s .args in
     let p = s .pre in
     let r = in-range (a .kernel) (a .phase) (p .0 .0) (p .0 .1) 0 (a .t3) (p .1 .0 .0) in
-    (p .0 .2, r .0, r .1, r .2, λ j lj l b ll. omega (arith, k .known-eight .ensures .1 .1 4095 (p .1 .1 .0 .0) j lj l b ll), p .1 .1 .1 .0)
+    (p .0 .2, r .0, r .1, r .2, λ j lj l b ll. omega (arith, k .known-eight .ensures .1 .1 2047 (p .1 .1 .0 .0) j lj l b ll), p .1 .1 .1 .0)
 
 returns-3 : tie.Need-returns-3
 returns-3 c = let k = c .before .before .before in
