@@ -18,7 +18,7 @@ use Rattle.kernel.specs.Kernels.{kernel, kernelCode}
 use Rattle.kernel.proofs.Solved.{invertible}
 use Rattle.kernel.proofs.Undoing.{code-word}
 use Rattle.frame.specs.Frames.{frameCode}
-use Rattle.layers.specs.Layers.{costsAt}
+use Rattle.lane.specs.Lanes.{laneCosts}
 use Rattle.run.proofs.Phases.{score-cong}
 
 -- A kernel as a matrix and by its relations has the same leasts,
@@ -35,14 +35,14 @@ code-score k m p l =
     (code-least k m (p ++ (true ∷ [])) (omega (arith, length-append p (true ∷ []))))
 
 module _ (a b : ℕ) (ys : List ℤ) (costs : List (List (List ℕ)))
-    (agree : (j t : ℕ) (c : Bool) → j < 16 → t < 16 → costsAt costs j t c ≡ channel ys (16 * j + t) c)
+    (agree : (j t : ℕ) (c : Bool) → j < 16 → t < 16 → laneCosts costs j t c ≡ channel ys (16 * j + t) c)
     (r : ℕ) (lr : r < 16) (u : List Bool) (lu : length u ≡ r * 16) where
   U : List (List Bool)
   U = rows 16 r u
 
   -- The score of outer kernel j after its column.
   pub outer-is : (j : ℕ) → j < 16 → (col : List Bool) → length col < 16 → col ≡ column (code (kernel a)) (rows 16 r u) j
-      → score (kernelCode b) (costsAt costs j) col ≡ score (code (kernel b)) (block 16 (channel ys) j) (column (code (kernel a)) (rows 16 r u) j)
+      → score (kernelCode b) (laneCosts costs j) col ≡ score (code (kernel b)) (block 16 (channel ys) j) (column (code (kernel a)) (rows 16 r u) j)
   outer-is j lj col lc e =
       score-cong (kernelCode b) (λ t lt c. agree j t c lj lt) col
       ∙ sym (code-score b (block 16 (channel ys) j) col lc)

@@ -1,3 +1,4 @@
+pub mod Widened
 pub mod Layered
 pub mod Prefixes
 pub mod Rows

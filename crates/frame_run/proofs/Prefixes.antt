@@ -1,15 +1,16 @@
--- The rows of a frame so far: their symbols, and the columns that they make. Assumes nothing.
+-- The rows of a frame so far: their symbols, and the columns that they make. Plane r has the word of row r. Assumes nothing.
 use mathlib.Core.Path.{_≡_, refl, sym, ap, ap₂, _∙_}
 use mathlib.Core.Bool.{Bool, false}
 use mathlib.Core.List.{List, [], _∷_, _++_, map}
 use Prim.Native.Nat.{ℕ, zero, suc, _+_, _*_, _/_, _%_, _≤_, _<_}
 use native.Mathlib.Nat.{suc-mul, zero-mul}
+use native.Mathlib.Numerals.{add-one}
 use native.Mathlib.Decide.{decLt}
 use native.Mathlib.Omega.{arith}
 use lib.ListN.{length, getD, set, drop, length-append, length-drop, List·getD-append}
 use lib.Seq.{take-all, take-append-le, drop-append-le, getD-append-add, getD-set-same, getD-set-other}
 use Rattle.base.specs.Bit.{bit}
-use Rattle.base.proofs.List.{same-bits}
+use Rattle.base.proofs.List.{same-bits, tabulate-next}
 use Rattle.bits.specs.Packed.{bits}
 use Rattle.bits.proofs.Packed.{length-bits}
 use Rattle.polar.specs.Code.{Code}
@@ -17,6 +18,8 @@ use Rattle.polar.specs.Stages.{rows, column}
 use Rattle.kernel.specs.Rows.{rowBit}
 use Rattle.grid.specs.Grid.{rowsBits}
 use Rattle.grid.proofs.Grid.{rows-bits-at, length-rows-bits}
+use Rattle.lane.specs.Lanes.{laneBit}
+use Rattle.lane_phases.specs.Rows.{column as laneColumn}
 use Rattle.frame_run.specs.Run.{front}
 
 pub length-front : (n : ℕ) (rows : List ℕ) → length (front n rows) ≡ n * 16
@@ -74,3 +77,10 @@ map-next f (q ∷ U) p = ap (λ l. f q ∷ l) (map-next f U p)
 pub column-next : (A : Code) (r : ℕ) (u p : List Bool) (j : ℕ) → length u ≡ r * 16 → length p ≡ 16
     → column A (rows 16 (suc r) (u ++ p)) j ≡ column A (rows 16 r u) j ++ (A .word p j ∷ [])
 column-next A r u p j lu lp = ap (map (λ v. A .word v j)) (rows-next 16 r u p lu lp) ∙ map-next (λ v. A .word v j) (rows 16 r u) p
+
+-- The same with one plane more.
+pub planes-next : (planes : List ℕ) (r w j : ℕ) → r < length planes → laneColumn (set planes r w) (r + 1) j ≡ laneColumn planes r j ++ (laneBit w j ∷ [])
+planes-next planes r w j l =
+    ap (λ n. laneColumn (set planes r w) n j) (add-one r)
+    ∙ tabulate-next r _ (λ s. laneBit (getD planes s 0) j) (λ s ls. ap (λ x. laneBit x j) (getD-set-other planes r s w 0 (λ e. omega arith)))
+    ∙ ap (λ x. laneColumn planes r j ++ (laneBit x j ∷ [])) (getD-set-same planes r w 0 l)

@@ -8,11 +8,11 @@ use native.Mathlib.Decide.{decLt}
 use native.Mathlib.Omega.{arith}
 use lib.IntN.{ℤ, pos}
 use lib.ListN.{length, getD, take, drop, set, replicate, length-set, length-append, List·getD-append}
-use lib.Seq.{paste, take-suc, take-all, take-at, take-append-le, take-append-add, drop-drop, drop-append-add, getD-append-add, length-take-le, ext-getD}
+use lib.Seq.{paste, take-all, take-at, take-append-le, take-append-add, drop-drop, drop-append-add, getD-append-add, length-take-le, ext-getD, getD-set-same}
 use Rattle.base.specs.Bit.{bit, tabulate}
 use Rattle.base.proofs.List.{length-tabulate, tabulate-at, tabulate-cong, tabulate-append}
 use Rattle.bits.specs.Packed.{bits}
-use Rattle.bits.proofs.Packed.{length-bits, zero-at}
+use Rattle.bits.proofs.Packed.{length-bits}
 use Rattle.polar.specs.Code.{Code, Costs, channel, least, score}
 use Rattle.polar.specs.Follow.{scores, penalties}
 use Rattle.polar.specs.Kernel.{code}
@@ -24,13 +24,13 @@ use Rattle.folds.specs.Rows.{rowOf}
 use Rattle.kernel.specs.Kernels.{kernel, kernelCode}
 use Rattle.kernel.proofs.Solved.{invertible}
 use Rattle.grid.specs.Grid.{rowsBits}
-use Rattle.windows.specs.Paths.{Kept, Held}
+use Rattle.windows.specs.Paths.{Kept}
 use Rattle.frame.specs.Frames.{frameCode}
-use Rattle.run.specs.Run.{withBit, symbolBy, SymbolsBy, KernelRun}
-use Rattle.layers.specs.Layers.{costsAt, columnBefore}
-use Rattle.run.proofs.Phases.{with-length, with-same, take-with, with-other}
+use Rattle.run.specs.Run.{symbolBy, SymbolsBy, KernelRun}
+use Rattle.lane.specs.Lanes.{laneBit, laneCosts}
+use Rattle.lane_phases.specs.Rows.{column as laneColumn, scoreRows, HeldLanes, KeptLanes}
 use Rattle.frame_run.specs.Run.{front, FrameRun}
-use Rattle.frame_run.proofs.Prefixes.{length-front, front-next, front-all, column-next}
+use Rattle.frame_run.proofs.Prefixes.{length-front, front-next, front-all, column-next, planes-next}
 use Rattle.frame_run.proofs.Layered.{outer-is, row-score, row-penalty}
 
 -- Scores of a list with a part more, and penalties.
@@ -63,21 +63,22 @@ paste-next {X} done new old n e f =
 
 module _ (a b : ℕ) (ys : List ℤ) (costs : List (List (List ℕ))) (free given : ℕ → Bool) (oldScores : List ℤ) (oldPenalties : List ℕ) where
   -- After r rows.
-  pub record AfterRows (r : ℕ) (symbols columns : List ℕ) (rows3 : List (List (List ℤ))) (w penalty : ℕ) (newScores : List ℤ) (newPenalties : List ℕ) : Type 0 where
+  pub record AfterRows (r : ℕ) (symbols planes : List ℕ) (rows3 : List (List (List ℕ))) (penalty : ℕ) (newScores : List ℤ) (newPenalties : List ℕ) : Type 0 where
     pub within : r ≤ 16
     pub room : length symbols ≡ 16
+    pub plane-room : length planes ≡ 16
+    pub row-room : length rows3 ≡ 16
     pub symbols-so : SymbolsBy (frameCode a b) (channel ys) free given (front r symbols)
     pub scores-so : newScores ≡ scores (frameCode a b) (channel ys) (front r symbols) ++ drop (r * 16) oldScores
     pub penalties-so : newPenalties ≡ penalties (frameCode a b) (channel ys) (front r symbols) ++ drop (r * 16) oldPenalties
     pub penalty-so : penalty ≡ least (frameCode a b) (channel ys) (front r symbols)
-    pub columns-so : (j : ℕ) → j < 16 → columnBefore r columns j ≡ column (code (kernel a)) (rows 16 r (front r symbols)) j
-    pub later : (j : ℕ) → j < 16 → (i : ℕ) → r ≤ i → bit (bits 16 (getD columns j 0)) i ≡ false
-    pub kept-so : 0 < r → (j : ℕ) → j < 16 → Kept b (costsAt costs j) (columnBefore r columns j) (rowOf (getD rows3 j []) (bit (bits 16 w) j))
+    pub columns-so : (j : ℕ) → j < 16 → laneColumn planes r j ≡ column (code (kernel a)) (rows 16 r (front r symbols)) j
+    pub kept-so : 0 < r → KeptLanes b costs planes r rows3
 
-  module _ (agree : (j t : ℕ) (c : Bool) → j < 16 → t < 16 → costsAt costs j t c ≡ channel ys (16 * j + t) c)
-      (r : ℕ) (symbols columns : List ℕ) (rows₀ : List (List (List ℤ))) (w₀ penalty : ℕ) (newScores : List ℤ) (newPenalties : List ℕ)
-      (g : AfterRows r symbols columns rows₀ w₀ penalty newScores newPenalties) (lr : r < 16)
-      (found : List ℤ) (is : (j : ℕ) → j < 16 → getD found j (pos 0) ≡ score (kernelCode b) (costsAt costs j) (columnBefore r columns j))
+  module _ (agree : (j t : ℕ) (c : Bool) → j < 16 → t < 16 → laneCosts costs j t c ≡ channel ys (16 * j + t) c)
+      (r : ℕ) (symbols planes : List ℕ) (rows₀ : List (List (List ℕ))) (penalty : ℕ) (newScores : List ℤ) (newPenalties : List ℕ)
+      (g : AfterRows r symbols planes rows₀ penalty newScores newPenalties) (lr : r < 16)
+      (found : List ℤ) (is : (j : ℕ) → j < 16 → getD found j (pos 0) ≡ score (kernelCode b) (laneCosts costs j) (laneColumn planes r j))
       (fr gi x : ℕ) (sc : List ℤ) (pe : List ℕ)
       (free-is : (s : ℕ) → s < 16 → bit (bits 16 fr) s ≡ free (r * 16 + s)) (given-is : (s : ℕ) → s < 16 → bit (bits 16 gi) s ≡ given (r * 16 + s))
       (row : KernelRun a found fr gi penalty x sc pe) (long : length pe ≡ 16) where
@@ -93,11 +94,11 @@ module _ (a b : ℕ) (ys : List ℤ) (costs : List (List (List ℕ))) (free give
     lp : length p ≡ 16
     lp = length-bits 16 x
 
-    col-long : (j : ℕ) → length (columnBefore r columns j) ≡ r
-    col-long j = length-take-le r (bits 16 (getD columns j 0)) (omega (arith, length-bits 16 (getD columns j 0)))
+    col-long : (j : ℕ) → length (laneColumn planes r j) ≡ r
+    col-long j = length-tabulate r (λ s. laneBit (getD planes s 0) j)
 
     soft-is : (j : ℕ) → j < 16 → getD found j (pos 0) ≡ score (code (kernel b)) (block 16 (channel ys) j) (column (code (kernel a)) (rows 16 r u) j)
-    soft-is j l = is j l ∙ outer-is a b ys costs agree r lr (front r symbols) lu j l (columnBefore r columns j) (omega (arith, col-long j)) (g .columns-so j l)
+    soft-is j l = is j l ∙ outer-is a b ys costs agree r lr (front r symbols) lu j l (laneColumn planes r j) (omega (arith, col-long j)) (g .columns-so j l)
 
     in-row : (q : List Bool) → length q < 16 → score (frameCode a b) (channel ys) (u ++ q) ≡ score (kernelCode a) (channel found) q
     in-row q lq = row-score a b ys costs agree r lr u lu found soft-is q lq
@@ -139,28 +140,26 @@ module _ (a b : ℕ) (ys : List ℤ) (costs : List (List (List ℕ))) (free give
         ∙ sym (tabulate-at (length p) _ i 0 (omega (arith, lp, long))))))
 
     -- One row more.
-    module _ (w : ℕ) (word-is : (j : ℕ) → j < 16 → bit (bits 16 w) j ≡ (code (kernel a)) .word p j)
-        (columns′ : List ℕ) (cols : (j : ℕ) → j < 16 → bits 16 (getD columns′ j 0) ≡ withBit (bits 16 (getD columns j 0)) r (bit (bits 16 w) j))
-        (rows3 : List (List (List ℤ))) (held : (j : ℕ) → j < 16 → Held b (costsAt costs j) (columnBefore r columns j) (getD rows3 j [])) where
+    module _ (w : ℕ) (word-is : (j : ℕ) → j < 16 → laneBit w j ≡ (code (kernel a)) .word p j)
+        (rows3 : List (List (List ℕ))) (long3 : length rows3 ≡ 16) (held : HeldLanes b costs planes r rows3) where
       next : front (r + 1) (set symbols r x) ≡ u ++ p
       next = ap (λ n. front n (set symbols r x)) (add-one r) ∙ front-next r symbols x (omega (arith, g .room))
 
       more : (r + 1) * 16 ≡ r * 16 + 16
       more = omega arith
 
-      col-next : (j : ℕ) → j < 16 → columnBefore (r + 1) columns′ j ≡ columnBefore r columns j ++ (bit (bits 16 w) j ∷ [])
-      col-next j l =
-          let q = bits 16 (getD columns j 0) in
-          let lq = length-bits 16 (getD columns j 0) in
-          let v = bit (bits 16 w) j in
-          ap₂ take (add-one r) (cols j l)
-          ∙ take-suc (withBit q r v) r false (omega (arith, with-length q r v, lq))
-          ∙ ap₂ (λ t c. t ++ (c ∷ [])) (take-with q r r v (omega arith)) (with-same q r v (omega (arith, lq)) (g .later j l r (omega arith)))
+      col-next : (j : ℕ) → laneColumn (set planes r w) (r + 1) j ≡ laneColumn planes r j ++ (laneBit w j ∷ [])
+      col-next j = planes-next planes r w j (omega (arith, g .plane-room))
 
-      pub row-next : AfterRows (r + 1) (set symbols r x) columns′ rows3 w (getD pe 15 0) (paste newScores (r * 16) sc 16) (paste newPenalties (r * 16) pe 16)
+      last : getD (set planes r w) (r + 1 - 1) 0 ≡ w
+      last = let e : r + 1 - 1 ≡ r = omega arith in ap (λ n. getD (set planes r w) n 0) e ∙ getD-set-same planes r w 0 (omega (arith, g .plane-room))
+
+      pub row-next : AfterRows (r + 1) (set symbols r x) (set planes r w) rows3 (getD pe 15 0) (paste newScores (r * 16) sc 16) (paste newPenalties (r * 16) pe 16)
       row-next = record {
         within = omega arith;
         room = length-set symbols r x ∙ g .room;
+        plane-room = length-set planes r w ∙ g .plane-room;
+        row-room = long3;
         symbols-so = subst⁻¹ (SymbolsBy (frameCode a b) (channel ys) free given) next symbols-next;
         scores-so =
             ap (λ (l : List ℤ). paste l (r * 16) sc 16) (g .scores-so)
@@ -174,42 +173,43 @@ module _ (a b : ℕ) (ys : List ℤ) (costs : List (List (List ℕ))) (free give
             row .penalties-are 15 (omega arith) ∙ sym (paid-row (take 16 p) (omega (arith, lp, length-take-le 16 p (omega (arith, lp)))))
             ∙ ap (λ v. least (frameCode a b) (channel ys) (u ++ v)) (take-all 16 p (omega (arith, lp))) ∙ ap (least (frameCode a b) (channel ys)) (sym next);
         columns-so = λ j l.
-            col-next j l ∙ ap₂ (λ t c. t ++ (c ∷ [])) (g .columns-so j l) (word-is j l)
+            col-next j ∙ ap₂ (λ t c. t ++ (c ∷ [])) (g .columns-so j l) (word-is j l)
             ∙ sym (column-next (code (kernel a)) r u p j lu lp)
             ∙ ap₂ (λ n v. column (code (kernel a)) (rows 16 n v) j) (sym (add-one r)) (sym next);
-        later = λ j l i li.
-            ap (λ v. bit v i) (cols j l) ∙ with-other (bits 16 (getD columns j 0)) r i (bit (bits 16 w) j) (λ e. omega arith) ∙ g .later j l i (omega arith);
-        kept-so = λ _ j l. subst⁻¹ (λ v. Kept b (costsAt costs j) v (rowOf (getD rows3 j []) (bit (bits 16 w) j))) (col-next j l) (held j l (bit (bits 16 w) j));
+        kept-so = λ _ j l.
+            subst⁻¹ (λ v. Kept b (laneCosts costs j) v (rowOf (scoreRows rows3 j) (laneBit (getD (set planes r w) (r + 1 - 1) 0) j))) (col-next j)
+            (subst⁻¹ (λ y. Kept b (laneCosts costs j) (laneColumn planes r j ++ (laneBit w j ∷ [])) (rowOf (scoreRows rows3 j) (laneBit y j))) last (held j l (laneBit w j)));
       }
 
       -- The same as the code has it.
       pub row-turn : (newScores′ : List ℤ) → newScores′ ≡ paste newScores (r * 16) sc 16 → (newPenalties′ : List ℕ) → newPenalties′ ≡ paste newPenalties (r * 16) pe 16
-          → AfterRows (r + 1) (set symbols r x) columns′ rows3 w (getD pe 15 0) newScores′ newPenalties′
+          → AfterRows (r + 1) (set symbols r x) (set planes r w) rows3 (getD pe 15 0) newScores′ newPenalties′
       row-turn newScores′ e newPenalties′ f = rw (e, f) row-next
 
 -- Before the first row.
 pub no-row : (a b : ℕ) (ys : List ℤ) (costs : List (List (List ℕ))) (free given : ℕ → Bool) (oldScores : List ℤ) (oldPenalties : List ℕ)
-    (symbols columns : List ℕ) (rows3 : List (List (List ℤ))) (w : ℕ) → length symbols ≡ 16 → ((j : ℕ) → getD columns j 0 ≡ 0)
-    → AfterRows a b ys costs free given oldScores oldPenalties 0 symbols columns rows3 w 0 oldScores oldPenalties
+    (symbols planes : List ℕ) (rows3 : List (List (List ℕ))) → length symbols ≡ 16 → length planes ≡ 16 → length rows3 ≡ 16
+    → AfterRows a b ys costs free given oldScores oldPenalties 0 symbols planes rows3 0 oldScores oldPenalties
 unfolding front scores penalties rows tabulate
-no-row a b ys costs free given oldScores oldPenalties symbols columns rows3 w ls z = record {
+no-row a b ys costs free given oldScores oldPenalties symbols planes rows3 ls lp lr = record {
   within = omega arith;
   room = ls;
+  plane-room = lp;
+  row-room = lr;
   symbols-so = λ i l. absurd (omega arith);
   scores-so = refl;
   penalties-so = refl;
   penalty-so = sym (channel-nil (frameCode a b) (frame-onto (kernel a) (kernel b) (invertible a) (invertible b)) ys);
   columns-so = λ j l. refl;
-  later = λ j l i li. ap (λ x. bit (bits 16 x) i) (z j) ∙ zero-at 16 i;
   kept-so = λ l. absurd (omega arith);
 }
 
 -- After the last row.
 pub all-rows : (a b : ℕ) (ys : List ℤ) (costs : List (List (List ℕ))) (free given : List ℕ) (oldScores : List ℤ) (oldPenalties : List ℕ)
-    (r : ℕ) (symbols columns : List ℕ) (rows3 : List (List (List ℤ))) (w penalty : ℕ) (newScores : List ℤ) (newPenalties : List ℕ) → r ≡ 16
-    → AfterRows a b ys costs (bit (rowsBits free)) (bit (rowsBits given)) oldScores oldPenalties r symbols columns rows3 w penalty newScores newPenalties
+    (r : ℕ) (symbols planes : List ℕ) (rows3 : List (List (List ℕ))) (penalty : ℕ) (newScores : List ℤ) (newPenalties : List ℕ) → r ≡ 16
+    → AfterRows a b ys costs (bit (rowsBits free)) (bit (rowsBits given)) oldScores oldPenalties r symbols planes rows3 penalty newScores newPenalties
     → FrameRun a b ys free given symbols newScores oldScores newPenalties oldPenalties
-all-rows a b ys costs free given oldScores oldPenalties r symbols columns rows3 w penalty newScores newPenalties e g =
+all-rows a b ys costs free given oldScores oldPenalties r symbols planes rows3 penalty newScores newPenalties e g =
     let C = frameCode a b in
     let m = channel ys in
     let all : front r symbols ≡ rowsBits symbols = ap (λ n. front n symbols) e ∙ front-all symbols in

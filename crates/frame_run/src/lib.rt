@@ -1,15 +1,14 @@
 // The run of a frame: row after row, sixteen outer kernels and the inner one over their scores.
 ghost use mathlib.Core.Path.{_≡_};
 ghost use mathlib.Core.Bool.{Bool};
-ghost use mathlib.Core.List.{[]};
 ghost use Prim.Native.Nat.{ℕ, _+_, _*_, _≤_, _<_};
 ghost use lib.IntN.{pos};
 ghost use lib.ListN.{length, getD};
 ghost use lib.Seq.{paste};
 ghost use Rattle.polar.specs.Code.{channel};
 ghost use Rattle.folds.specs.Range.{firstOutside};
-ghost use Rattle.folds.specs.Rows.{Within};
-ghost use Rattle.layers.specs.Layers.{costsAt};
+ghost use Rattle.folds.specs.Rows.{cell};
+ghost use Rattle.lane.specs.Lanes.{laneCosts, LanesWithin};
 ghost use Rattle.frame_run.specs.Run.{Ready, NarrowScores, NarrowPenalties, FrameRun};
 use run::Run;
 
@@ -27,17 +26,32 @@ pub fn block_values(values: &[i8], j: usize) -> [i32; 16]
     out
 }
 
-// What each value pays, in blocks of sixteen: one for each outer kernel.
-fn outer_costs(values: &[i8]) -> [[[u32; 16]; 2]; 16]
-    requires { ⌜ (length (now values) ≡ 256) × (firstOutside 127 (now values) ≡ 256) ⌝ }
-    ensures { λ r. ⌜ ((j t : ℕ) (c : Bool) → j < 16 → t < 16 → costsAt r j t c ≡ channel (now (values .entry)) (16 * j + t) c) × ((j : ℕ) → j < 16 → Within 127 (getD r j [])) ⌝ }
+// What the values at place t of the outer kernels pay for bit 0 and for bit 1, a lane for each kernel.
+fn place_costs(values: &[i8], t: usize) -> [[u16; 16]; 2]
+    requires { ⌜ (length (now values) ≡ 256) × (t < 16) ⌝ }
+    ensures { λ r. ⌜ ((j : ℕ) (b : Bool) → j < 16 → cell 0 r j b ≡ channel (now (values .entry)) (16 * j + t) b) ⌝ }
 {
-    let mut out = [[[0u32; 16]; 2]; 16];
+    let mut out = [[0u16; 16]; 2];
     let mut j: usize = 0;
     while j < 16 {
-        let block = block_values(values, j);
-        out[j] = folds::cost_rows(&block);
+        let y = values[16 * j + t] as i32;
+        out[0][j] = run::paid(y, false) as u16;
+        out[1][j] = run::paid(y, true) as u16;
         j += 1;
+    }
+    out
+}
+
+// What each value pays, by place, bit and lane.
+fn outer_costs(values: &[i8]) -> [[[u16; 16]; 2]; 16]
+    requires { ⌜ (length (now values) ≡ 256) × (firstOutside 127 (now values) ≡ 256) ⌝ }
+    ensures { λ r. ⌜ ((j t : ℕ) (c : Bool) → j < 16 → t < 16 → laneCosts r j t c ≡ channel (now (values .entry)) (16 * j + t) c) × LanesWithin 127 r ⌝ }
+{
+    let mut out = [[[0u16; 16]; 2]; 16];
+    let mut t: usize = 0;
+    while t < 16 {
+        out[t] = place_costs(values, t);
+        t += 1;
     }
     out
 }
@@ -95,25 +109,33 @@ pub fn frame_run(
     let outer_shapes = step::shapes_of(outer);
     let outer_paths = step::tables_of(outer);
     let matrix = kernel::kernel_rows(inner as u8);
+    let flags = lane::flags();
     let costs = outer_costs(values);
+    let halves = lane_nodes::free_eight(&costs);
     let mut symbols = [0u16; 16];
-    let mut columns = [0u16; 16];
-    let mut rows = [[[0i32; 16]; 2]; 16];
-    let mut word: u16 = 0;
+    let mut planes = [0u16; 16];
+    let mut rows = [[[0u16; 16]; 2]; 16];
     let mut penalty: u32 = 0;
     let mut r: usize = 0;
     while r < 16 {
         let shape = outer_shapes[r];
-        let next = layers::outer_rows(outer, r, shape, outer_paths[r], &costs, columns, rows, word);
-        rows = next;
-        let found = layers::outer_scores(&rows, step::path_count(shape, r));
+        lane_step::step(
+            outer,
+            r,
+            shape,
+            &flags,
+            &outer_paths[r],
+            &costs,
+            &halves,
+            &planes,
+            &mut rows,
+        );
+        let found = lane_rows::scores(&rows, step::path_count(shape, r));
         let row = hadamard_run::hadamard_run(inner, &found, free[r], given[r], penalty);
         store_run(row, r * 16, scores, penalties);
         penalty = row.penalties[15];
         symbols[r] = row.symbols;
-        word = kernel::row_sum(matrix, row.symbols);
-        let longer = layers::next_columns(columns, word, r);
-        columns = longer;
+        planes[r] = kernel::row_sum(matrix, row.symbols);
         r += 1;
     }
     symbols

@@ -1,23 +1,14 @@
 -- `frame_run::block_values` meets its contract: the first t values are taken. Assumes nothing.
-use mathlib.Core.Path.{_≡_, refl, _∙_}
+use mathlib.Core.Path.{_≡_, refl}
 use Prim.Native.Nat.{ℕ, _+_, _-_, _*_, _≤_, _<_}
 use native.Mathlib.Omega.{arith}
-use lib.IntN.{ℤ, pos}
+use lib.IntN.{pos}
 use lib.ListN.{length, getD}
-use mir.Facts.{toZ-ofZ, sfits-widen}
-use mir.Syntax.{w8, w32}
-use mir.Val.{SFits, toZ, ofZ}
 use Rattle.base.proofs.List.{each-next}
 use borrow.Author.Needs.{needs, sfits-of}
+use Rattle.frame_run.proofs.Widened.{wide-fits, wide-is}
 use Rattle.frame_run.proofs.block_values.Statement.{statement}
 use Rattle.frame_run.proofs.block_values.Tie as tie
-
--- A value of eight bits, widened, is the value.
-wide-fits : (y : ℤ) → SFits w8 y → SFits w32 (toZ w8 (ofZ w8 y))
-wide-fits y f = rw (toZ-ofZ f) (sfits-widen tt f)
-
-wide-is : (y : ℤ) → SFits w8 y → toZ w32 (ofZ w32 (toZ w8 (ofZ w8 y))) ≡ y
-wide-is y f = toZ-ofZ (wide-fits y f) ∙ toZ-ofZ f
 
 abbrev Inv-loop : tie.InvT-loop
 Inv-loop values j out₀ t₀ out t = (t ≤ 16) × (length out ≡ 16) × ((i : ℕ) → i < t → getD out i (pos 0) ≡ getD values (16 * j + i) (pos 0))

@@ -4,30 +4,35 @@ use mathlib.Core.Path.{_≡_, refl, sym, ap, _∙_}
 use mathlib.Core.List.{List, []}
 use Prim.Native.Nat.{ℕ, _+_, _-_, _*_, _≤_, _<_}
 use native.Mathlib.Omega.{arith}
+use lib.IntN.{pos}
 use lib.ListN.{length, getD}
 use Rattle.base.specs.Bit.{bit}
 use Rattle.bits.specs.Packed.{bits}
+use Rattle.polar.specs.Code.{score}
 use Rattle.folds.specs.Range.{valueLimit, firstOutside}
 use Rattle.folds.proofs.Limit.{frame-inside}
 use Rattle.folds.proofs.Range.{outside-wider}
+use Rattle.kernel.specs.Kernels.{kernelCode}
 use Rattle.kernel.specs.Rows.{rowSum}
 use Rattle.grid.specs.Grid.{rowsBits}
 use Rattle.grid.proofs.Grid.{rows-bits-at}
 use Rattle.windows.proofs.Stepping.{in-range}
+use Rattle.lane.specs.Lanes.{laneCosts}
+use Rattle.lane_phases.specs.Rows.{column}
 use Rattle.frame_run.specs.Run.{front}
-use Rattle.frame_run.proofs.Rows.{AfterRows, no-row, row-turn, all-rows, zeros-at}
-use Rattle.frame_run.proofs.Premises.{word-of, penalty-small, outer-score, outer-asks, found-small, narrow-scores, narrow-penalties}
+use Rattle.frame_run.proofs.Rows.{AfterRows, no-row, row-turn, all-rows}
+use Rattle.frame_run.proofs.Premises.{word-of, penalty-small, lanes-wider, outer-asks, outer-values, narrow-scores, narrow-penalties}
 use borrow.Author.Needs.{needs}
 use Rattle.frame_run.proofs.frame_run.Statement.{statement}
 use Rattle.frame_run.proofs.frame_run.Tie as tie
 
 abbrev Inv-loop : tie.InvT-loop
-Inv-loop inner outer values scores₀ penalties₀ free given outer-shapes outer-paths matrix costs symbols₀ columns₀ rows₀ word₀ penalty₀ r₀ scores penalties symbols columns rows word penalty r =
-    AfterRows inner outer values costs (bit (rowsBits free)) (bit (rowsBits given)) scores₀ penalties₀ r symbols columns rows word penalty scores penalties
+Inv-loop inner outer values scores₀ penalties₀ free given outer-shapes outer-paths matrix flags costs halves symbols₀ planes₀ rows₀ penalty₀ r₀ scores penalties symbols planes rows penalty r =
+    AfterRows inner outer values costs (bit (rowsBits free)) (bit (rowsBits given)) scores₀ penalties₀ r symbols planes rows penalty scores penalties
     × (length scores ≡ length scores₀) × (length penalties ≡ length penalties₀)
 
 abbrev μ-loop : tie.MeasureT-loop
-μ-loop inner outer values scores₀ penalties₀ free given outer-shapes outer-paths matrix costs symbols₀ columns₀ rows₀ word₀ penalty₀ r₀ scores penalties symbols columns rows word penalty r = 16 - r
+μ-loop inner outer values scores₀ penalties₀ free given outer-shapes outer-paths matrix flags costs halves symbols₀ planes₀ rows₀ penalty₀ r₀ scores penalties symbols planes rows penalty r = 16 - r
 
 shapes-of-requires : tie.Need-shapes-of-requires Inv-loop μ-loop
 shapes-of-requires c κs = (c .before) .pre .outer
@@ -41,13 +46,19 @@ cast-kernel-rows c = let z = c .before .before .before in omega (arith, z .pre .
 kernel-rows-requires : tie.Need-kernel-rows-requires Inv-loop μ-loop
 kernel-rows-requires c κs = let z = c .before .before .before in omega (arith, z .pre .inner, z .pre .outer)
 
+flags-requires : tie.Need-flags-requires Inv-loop μ-loop
+flags-requires c κs = search needs
+
 outer-costs-requires : tie.Need-outer-costs-requires Inv-loop μ-loop
-outer-costs-requires c κs = let z = c .before .before .before .before in (z .pre .count, z .pre .inside)
+outer-costs-requires c κs = let z = c .before .before .before .before .before in (z .pre .count, z .pre .inside)
+
+free-eight-requires : tie.Need-free-eight-requires Inv-loop μ-loop
+free-eight-requires c κs = let m = c .before .outer-costs in lanes-wider 127 _ (m .result) (omega arith) (m .ensures .1)
 
 loop-holds : tie.Need-loop-holds Inv-loop μ-loop
 loop-holds c =
-    let a = c .before .before .before .before .before .args in
-    (no-row (a .inner) (a .outer) (a .values .now) _ _ _ (a .scores .now) (a .penalties .now) _ _ _ _ refl (zeros-at 16), refl, refl)
+    let a = c .before .before .before .before .before .before .before .before .args in
+    (no-row (a .inner) (a .outer) (a .values .now) _ _ _ (a .scores .now) (a .penalties .now) _ _ _ refl refl refl, refl, refl)
 
 mul-shape : tie.Need-mul-shape Inv-loop μ-loop
 mul-shape c = search needs
@@ -55,31 +66,40 @@ mul-shape c = search needs
 array-copy-out-shape : tie.Need-array-copy-out-shape Inv-loop μ-loop
 array-copy-out-shape c = search needs
 
-mul-outer-rows : tie.Need-mul-outer-rows Inv-loop μ-loop
-mul-outer-rows c = search needs
+mul-step : tie.Need-mul-step Inv-loop μ-loop
+mul-step c = search needs
 
-array-copy-out-outer-rows : tie.Need-array-copy-out-outer-rows Inv-loop μ-loop
-array-copy-out-outer-rows c = search needs
+index-1-step : tie.Need-index-1-step Inv-loop μ-loop
+index-1-step c = search needs
 
-outer-rows-requires : tie.Need-outer-rows-requires Inv-loop μ-loop
-outer-rows-requires c κs =
-    let q = c .before .before .before .before in
-    let z = q .before .before .before .before .before .before in
-    let at : List (List ℕ) → List ℕ = λ t. getD t (q .loop .r) [] in
-    ((z .pre .outer, search needs), ((ap at (q .before .before .before .before .shapes-of .ensures), ap (λ t. getD t (q .loop .r) []) (q .before .before .before .tables-of .ensures)), (q .before .outer-costs .ensures .1, q .loop .inv .0 .kept-so)))
+step-requires : tie.Need-step-requires Inv-loop μ-loop
+step-requires c κs =
+    let q = c .before .before .before .before .before .before .before .before in
+    let z = q .before .before .before .before .before .before .before .before .before in
+    let l = q .loop in
+    let m = q .before .before .before .outer-costs in
+    let h = q .before .free-eight in (
+      (z .pre .outer, c .before .before .before .before .before .before .before .loop-test .taken, q .before .before .before .before .flags .ensures),
+      (
+        (ap (λ t. getD t (l .r) []) (q .before .before .before .before .before .before .before .shapes-of .ensures), ap (λ t. getD t (l .r) []) (q .before .before .before .before .before .before .tables-of .ensures)),
+        (
+          (lanes-wider 127 _ (m .result) (omega arith) (m .ensures .1), lanes-wider 254 _ (h .result) (omega arith) (h .ensures .1 127 (m .ensures .1)), h .ensures .0),
+          (l .inv .0 .row-room, l .inv .0 .kept-so),
+        ),
+      ),
+    )
 
 path-count-requires : tie.Need-path-count-requires Inv-loop μ-loop
 path-count-requires c κs =
-    let q = c .before .before .before .before .before .before in
-    let z = q .before .before .before .before .before .before in
-    in-range (z .args .outer) (q .loop .r) (z .pre .outer) (search needs) 0 _ (ap (λ t. getD t (q .loop .r) []) (q .before .before .before .before .shapes-of .ensures))
+    let q = c .before .before .before .before .before .before .before .before .before .before in
+    let z = q .before .before .before .before .before .before .before .before .before in
+    in-range (z .args .outer) (q .loop .r) (z .pre .outer) (c .before .before .before .before .before .before .before .before .before .loop-test .taken) 0 _ (ap (λ t. getD t (q .loop .r) []) (q .before .before .before .before .before .before .before .shapes-of .ensures))
 
-outer-scores-requires : tie.Need-outer-scores-requires Inv-loop μ-loop
-outer-scores-requires c κs =
-    let q = c .before .before .before .before .before .before .before in
-    let z = q .before .before .before .before .before .before in
-    let h = c .before .before .outer-rows in
-    outer-asks (z .args .outer) (z .pre .outer) (q .before .outer-costs .result) (q .before .outer-costs .ensures .1) (q .loop .columns) _ (q .before .before .before .before .shapes-of .ensures) (q .loop .r) (search needs) (h .result) (h .ensures) (c .path-count .result) (c .path-count .ensures)
+scores-requires : tie.Need-scores-requires Inv-loop μ-loop
+scores-requires c κs =
+    let q = c .before .before .before .before .before .before .before .before .before .before .before in
+    let z = q .before .before .before .before .before .before .before .before .before in
+    outer-asks (z .args .outer) (z .pre .outer) _ (q .before .before .before .before .before .before .before .shapes-of .ensures) (q .loop .r) (c .before .before .before .before .before .before .before .before .before .before .loop-test .taken) _ (c .path-count .ensures)
 
 slice-aggregate-hadamard-run : tie.Need-slice-aggregate-hadamard-run Inv-loop μ-loop
 slice-aggregate-hadamard-run c = search needs
@@ -96,30 +116,31 @@ mul-hadamard-run-2 c = search needs
 array-read-hadamard-run-2 : tie.Need-array-read-hadamard-run-2 Inv-loop μ-loop
 array-read-hadamard-run-2 c = search needs
 
--- The values of the inner kernel are small,
-small-values : (c : tie.After-outer-scores Inv-loop μ-loop) → firstOutside (16 * 127) (c .outer-scores .result) ≡ length (c .outer-scores .result)
-small-values c =
-    let q = c .before .before .before .before .before .before .before .before in
-    let z = q .before .before .before .before .before .before in
-    let h = c .before .before .before .outer-rows in
-    let n = c .before .path-count in
-    let f = c .outer-scores in
-    found-small (z .args .outer) (z .pre .outer) (q .before .outer-costs .result) (q .before .outer-costs .ensures .1) (q .loop .columns) _ (q .before .before .before .before .shapes-of .ensures) (q .loop .r) (c .before .before .before .before .before .before .before .loop-test .taken) (h .result) (h .ensures) (n .result) (n .ensures) (f .result) (search needs) (f .ensures)
+-- The inner kernel's values are the scores of the outer kernels, and small,
+values-are : (c : tie.After-scores Inv-loop μ-loop)
+    → (let q = c .before .before .before .before .before .before .before .before .before .before .before .before in
+    ((j : ℕ) → j < 16 → getD (c .scores .result) j (pos 0) ≡ score (kernelCode (q .before .before .before .before .before .before .before .before .before .args .outer)) (laneCosts (q .before .before .before .outer-costs .result) j) (column (q .loop .planes) (q .loop .r) j))
+    × (firstOutside (16 * 127) (c .scores .result) ≡ length (c .scores .result)))
+values-are c =
+    let q = c .before .before .before .before .before .before .before .before .before .before .before .before in
+    let z = q .before .before .before .before .before .before .before .before .before in
+    let m = q .before .before .before .outer-costs in
+    let h = c .before .before .before .step in
+    outer-values (z .args .outer) (z .pre .outer) _ (q .before .before .before .before .before .before .before .shapes-of .ensures) (q .loop .r) (c .before .before .before .before .before .before .before .before .before .before .before .loop-test .taken) _ (c .before .path-count .ensures)
+    (z .args .values .now) (z .pre .inside ∙ sym (z .pre .count)) (m .result) (m .ensures .0) (q .loop .planes) (h .last .1 .1 .1 .1 .1 .1 .1 .1 .0) (h .ensures .1) (c .scores .result) (c .scores .ensures) (search needs)
 
 -- and so is the penalty of the rows so far.
-small-penalty : (c : tie.After-outer-scores Inv-loop μ-loop) → (let q = c .before .before .before .before .before .before .before .before in q .loop .penalty ≤ 256 * 127)
+small-penalty : (c : tie.At-loop Inv-loop μ-loop) → c .loop .penalty ≤ 256 * 127
 small-penalty c =
-    let q = c .before .before .before .before .before .before .before .before in
-    let z = q .before .before .before .before .before .before in
-    omega (arith, q .loop .inv .0 .penalty-so, penalty-small (z .args .inner) (z .args .outer) (z .args .values .now) (z .pre .inside ∙ sym (z .pre .count)) (front (q .loop .r) (q .loop .symbols)))
+    let z = c .before .before .before .before .before .before .before .before .before in
+    omega (arith, c .loop .inv .0 .penalty-so, penalty-small (z .args .inner) (z .args .outer) (z .args .values .now) (z .pre .inside ∙ sym (z .pre .count)) (front (c .loop .r) (c .loop .symbols)))
 
 hadamard-run-requires : tie.Need-hadamard-run-requires Inv-loop μ-loop
 hadamard-run-requires c κs =
-    let q = c .before .before .before .before .before .before .before .before .before in
-    let z = q .before .before .before .before .before .before in
-    let f = c .before .outer-scores in
-    let long : length (f .result) ≡ 16 = search needs in
-    (z .pre .inner, omega (arith, small-penalty (c .before)), long, outside-wider (16 * 127) valueLimit frame-inside (f .result) (small-values (c .before)) ∙ long)
+    let q = c .before .before .before .before .before .before .before .before .before .before .before .before .before in
+    let f = c .before .scores .result in
+    let long : length f ≡ 16 = search needs in
+    (q .before .before .before .before .before .before .before .before .before .pre .inner, omega (arith, small-penalty q), long, outside-wider (16 * 127) valueLimit frame-inside f (values-are (c .before) .1) ∙ long)
 
 -- A row has sixteen penalties.
 penalties-long : (c : tie.After-hadamard-run Inv-loop μ-loop) → length (c .hadamard-run .result .penalties) ≡ 16
@@ -130,16 +151,16 @@ mul-store-run c = search needs
 
 store-run-requires : tie.Need-store-run-requires Inv-loop μ-loop
 store-run-requires c κs =
-    let q = c .before .before .before .before .before .before .before .before .before .before .before .before in
-    let z = q .before .before .before .before .before .before in
-    let t = c .before .before .before .before .before .before .before .before .before .before .before .loop-test .taken in
+    let q = c .before .before .before .before .before .before .before .before .before .before .before .before .before .before .before .before in
+    let z = q .before .before .before .before .before .before .before .before .before in
+    let t = c .before .before .before .before .before .before .before .before .before .before .before .before .before .before .before .loop-test .taken in
     let row = c .before .before .hadamard-run in
     let f = c .before .before .before .before in
-    let found = f .outer-scores .result in (
+    let found = f .scores .result in (
       (omega (arith, q .loop .inv .1, z .pre .score-room, t), omega (arith, q .loop .inv .2, z .pre .penalty-room, t)),
       (
-        narrow-scores (z .args .inner) found (small-values f) _ _ _ _ _ _ (row .ensures),
-        narrow-penalties (z .args .inner) found (small-values f) _ _ _ _ _ _ (row .ensures) (small-penalty f),
+        narrow-scores (z .args .inner) found (values-are f .1) _ _ _ _ _ _ (row .ensures),
+        narrow-penalties (z .args .inner) found (values-are f .1) _ _ _ _ _ _ (row .ensures) (omega (arith, small-penalty q)),
       ),
     )
 
@@ -155,40 +176,46 @@ array-write-symbols c = search needs
 row-sum-requires : tie.Need-row-sum-requires Inv-loop μ-loop
 row-sum-requires c κs = search needs
 
-next-columns-requires : tie.Need-next-columns-requires Inv-loop μ-loop
-next-columns-requires c κs = search needs
+-- The row that was run is one of the sixteen.
+row-is : (c : tie.After-row-sum Inv-loop μ-loop) → c .before .before .before .before .before .before .before .before .before .before .before .before .before .before .before .before .before .before .before .before .before .before .loop .r < 16
+row-is c = c .before .before .before .before .before .before .before .before .before .before .before .before .before .before .before .before .before .before .before .before .before .loop-test .taken
+
+mul-planes : tie.Need-mul-planes Inv-loop μ-loop
+mul-planes c = omega (arith, row-is c)
+
+array-write-planes : tie.Need-array-write-planes Inv-loop μ-loop
+array-write-planes c = omega (arith, row-is c)
 
 add-r : tie.Need-add-r Inv-loop μ-loop
-add-r c = omega (arith, c .before .before .before .before .before .before .before .before .before .before .before .before .before .before .before .before .before .before .loop-test .taken)
+add-r c = omega (arith, row-is c)
 
 loop-less : tie.Need-loop-less Inv-loop μ-loop
-loop-less c = omega (arith, c .before .before .before .before .before .before .before .before .before .before .before .before .before .before .before .before .before .before .loop-test .taken)
+loop-less c = omega (arith, row-is c)
 
 loop-again : tie.Need-loop-again Inv-loop μ-loop
 loop-again c =
-    let q = c .before .before .before .before .before .before .before .before .before .before .before .before .before .before .before .before .before .before .before in
-    let z = q .before .before .before .before .before .before in
+    let f = c .before .before .before .before .before .before .before .before .before .before in
+    let q = f .before .before .before .before .before .before .before .before .before .before .before .before in
+    let z = q .before .before .before .before .before .before .before .before .before in
     let a = z .args in
     let l = q .loop in
-    let lr : l .r < 16 = c .before .before .before .before .before .before .before .before .before .before .before .before .before .before .before .before .before .before .loop-test .taken in
-    let h = c .before .before .before .before .before .before .before .before .before .before .before .before .before .before .outer-rows in
-    let n = c .before .before .before .before .before .before .before .before .before .before .before .before .path-count in
-    let f = c .before .before .before .before .before .before .before .before .before .before .before .outer-scores in
-    let row = c .before .before .before .before .before .before .before .before .before .hadamard-run in
-    let stored = c .before .before .before .before .before .before .store-run in
-    let word = c .before .row-sum in
-    let long = penalties-long (c .before .before .before .before .before .before .before .before .before) in
+    let lr : l .r < 16 = row-is c in
+    let m = q .before .before .before .outer-costs in
+    let h = f .before .before .before .step in
+    let row = c .before .before .before .before .before .before .before .before .hadamard-run in
+    let stored = c .before .before .before .before .before .store-run in
+    let long = penalties-long (c .before .before .before .before .before .before .before .before) in
     let at : (t : List ℕ) (s : ℕ) → s < 16 → bit (bits 16 (getD t (l .r) 0)) s ≡ bit (rowsBits t) (l .r * 16 + s) = λ t s ls.
     sym (ap (bit (rowsBits t)) (let e : l .r * 16 + s ≡ 16 * l .r + s = omega arith in e) ∙ rows-bits-at t (l .r) s lr ls) in (
-      row-turn (a .inner) (a .outer) (a .values .now) (q .before .outer-costs .result) _ _ (a .scores .now) (a .penalties .now) (q .before .outer-costs .ensures .0)
-          (l .r) (l .symbols) (l .columns) (l .rows) (l .word) (l .penalty) (l .scores) (l .penalties) (l .inv .0) lr
-          (f .result) (λ j lj. outer-score (z .args .outer) (z .pre .outer) (q .before .outer-costs .result) (q .before .outer-costs .ensures .1) (q .loop .columns) _ (q .before .before .before .before .shapes-of .ensures) (q .loop .r) lr (h .result) (h .ensures) (n .result) (n .ensures) j lj _ (f .ensures j lj))
+      row-turn (a .inner) (a .outer) (a .values .now) (m .result) _ _ (a .scores .now) (a .penalties .now) (m .ensures .0)
+          (l .r) (l .symbols) (l .planes) (l .rows) (l .penalty) (l .scores) (l .penalties) (l .inv .0) lr
+          (f .scores .result) (values-are f .0)
           (getD (a .t4) (l .r) 0) (getD (a .t5) (l .r) 0) (row .result .symbols) (row .result .scores) (row .result .penalties) (at (a .t4)) (at (a .t5)) (row .ensures) long
-          (word .result)
-          (λ j lj. ap (λ v. bit (bits 16 v) j) (word .ensures ∙ ap (λ t. rowSum t (row .result .symbols)) (q .before .before .kernel-rows .ensures)) ∙ word-of (a .inner) (row .result .symbols) j (z .pre .inner) lj)
-          (c .next-columns .result) (c .next-columns .ensures) (h .result) (h .ensures) _ (stored .ensures .0) _ (stored .ensures .1),
-      search (needs, c .before .before .before .before .before .scores, l .inv),
-      search (needs, c .before .before .before .before .penalties, l .inv),
+          (c .row-sum .result)
+          (λ j lj. ap (λ v. bit (bits 16 v) j) (c .row-sum .ensures ∙ ap (λ t. rowSum t (row .result .symbols)) (q .before .before .before .before .before .kernel-rows .ensures)) ∙ word-of (a .inner) (row .result .symbols) j (z .pre .inner) lj)
+          (h .last .1 .1 .1 .1 .1 .1 .1 .1 .0) (h .ensures .0) (h .ensures .1) _ (stored .ensures .0) _ (stored .ensures .1),
+      search (needs, c .before .before .before .before .scores2, l .inv),
+      search (needs, c .before .before .before .penalties, l .inv),
     )
 
 same-length : tie.Need-same-length Inv-loop μ-loop
@@ -200,9 +227,9 @@ same-length-2 c = search needs
 returns : tie.Need-returns Inv-loop μ-loop
 returns c =
     let q = c .before in
-    let a = q .before .before .before .before .before .before .args in
+    let a = q .before .before .before .before .before .before .before .before .before .args in
     let l = q .loop in
-    all-rows (a .inner) (a .outer) (a .values .now) _ (a .t4) (a .t5) (a .scores .now) (a .penalties .now) (l .r) (l .symbols) (l .columns) (l .rows) (l .word) (l .penalty) _ _ (search needs) (l .inv .0)
+    all-rows (a .inner) (a .outer) (a .values .now) _ (a .t4) (a .t5) (a .scores .now) (a .penalties .now) (l .r) (l .symbols) (l .planes) (l .rows) (l .penalty) _ _ (search needs) (l .inv .0)
 
 pub frame-run-spec : {M : Type 1} → statement M
 frame-run-spec =
@@ -214,15 +241,17 @@ frame-run-spec =
     tables-of-requires
     cast-kernel-rows
     kernel-rows-requires
+    flags-requires
     outer-costs-requires
+    free-eight-requires
     loop-holds
     mul-shape
     array-copy-out-shape
-    mul-outer-rows
-    array-copy-out-outer-rows
-    outer-rows-requires
+    mul-step
+    index-1-step
+    step-requires
     path-count-requires
-    outer-scores-requires
+    scores-requires
     slice-aggregate-hadamard-run
     mul-hadamard-run
     array-read-hadamard-run
@@ -235,7 +264,8 @@ frame-run-spec =
     mul-symbols
     array-write-symbols
     row-sum-requires
-    next-columns-requires
+    mul-planes
+    array-write-planes
     add-r
     loop-less
     loop-again
