@@ -1,5 +1,5 @@
-// Links the static libraries that `rt staticlib link` and `rt staticlib bitwise` write. NOSPRIDDA_LIB names another folder
-// that has them.
+// Links the static libraries that `rt staticlib` writes of link, bitwise and side_follow. NOSPRIDDA_LIB names another folder that
+// has them.
 use std::env;
 use std::path::PathBuf;
 
@@ -12,7 +12,7 @@ fn main() {
         }
     };
     println!("cargo:rustc-link-search=native={}", folder.display());
-    for name in ["link", "bitwise"] {
+    for name in ["link", "bitwise", "side_follow"] {
         let library = folder.join(format!("lib{name}.a"));
         println!("cargo:rerun-if-changed={}", library.display());
         if !library.is_file() {

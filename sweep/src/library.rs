@@ -1,4 +1,4 @@
-//! The library's jobs, through its C interface, and the two ways to a kernel's word, for tests alone.
+//! The library's jobs, through its C interface; and for tests alone the two ways to a kernel's word, and sixteen kernels side by side.
 
 /// The outcome of a job without a word.
 #[repr(C)]
@@ -95,6 +95,15 @@ extern "C" {
     ) -> Outcome;
     fn nospridda_test_word_by_rows(kernel: u8, symbols: u16) -> u16;
     fn nospridda_test_word_by_bits(kernel: u8, symbols: u16) -> u16;
+    fn nospridda_side_follow(
+        kernel: u8,
+        values: *const i16,
+        values_length: usize,
+        planes: *const u16,
+        planes_length: usize,
+        scores: *mut i32,
+        scores_length: usize,
+    ) -> bool;
 }
 
 pub fn kernel_encode(kernel: u8, symbols: u16) -> WordOutcome {
@@ -266,4 +275,20 @@ pub fn word_by_rows(kernel: u8, symbols: u16) -> u16 {
 pub fn word_by_bits(kernel: u8, symbols: u16) -> u16 {
     // Safe for every input: it takes numbers only.
     unsafe { nospridda_test_word_by_bits(kernel, symbols) }
+}
+
+/// Sixteen kernels followed side by side, of `libside_follow.a`; whether the request was accepted.
+pub fn side_follow(kernel: u8, values: &[i16], planes: &[u16], scores: &mut [i32]) -> bool {
+    // Safe for every input, as with kernel follow.
+    unsafe {
+        nospridda_side_follow(
+            kernel,
+            values.as_ptr(),
+            values.len(),
+            planes.as_ptr(),
+            planes.len(),
+            scores.as_mut_ptr(),
+            scores.len(),
+        )
+    }
 }

@@ -20,6 +20,7 @@ mod recorded;
 mod request;
 mod scales;
 mod scores;
+mod side;
 mod tally;
 mod traps;
 
@@ -48,6 +49,7 @@ fn sweep() -> ExitCode {
     let all: Vec<Kernel> = (0..3).map(Kernel::new).collect();
     kernels::sweep(&mut tally, &all);
     follow::sweep(&mut tally, &all);
+    side::sweep(&mut tally, &all);
     frames::sweep(&mut tally, &all);
     decoding::sweep(&mut tally, &all);
     plain::sweep(&mut tally, &all);

@@ -31,7 +31,11 @@ const fn job(name: &'static str, function: &'static str, numbers: &'static [u32]
     }
 }
 
-const JOBS: [Job; 11] = [
+/// Sixteen kernels side by side are for tests alone, and no job of the header. They answer whether the request was accepted, which
+/// is recorded as 0, and as 1 where it was not.
+const SIDE: &str = "side_follow";
+
+const JOBS: [Job; 12] = [
     job("kernel encode", "kernel_encode", &[0, 1]),
     job("kernel undo", "kernel_undo", &[0, 1]),
     job("kernel follow", "kernel_follow", &[0, 1, 2, 5, 6]),
@@ -47,6 +51,7 @@ const JOBS: [Job; 11] = [
     job("payload part", "part_length", &[]),
     job("information mask", "information_mask", &[0, 5, 8]),
     job("values from marks", "values_from_marks", &[0, 2, 5, 7, 10]),
+    job("side by side", SIDE, &[0, 1]),
 ];
 
 /// The calls of one job.
@@ -111,7 +116,11 @@ pub fn report(tally: &mut Tally) {
             ),
         );
     }
-    let called: BTreeSet<&str> = JOBS.iter().map(|job| job.function).collect();
+    let called: BTreeSet<&str> = JOBS
+        .iter()
+        .map(|job| job.function)
+        .filter(|&function| function != SIDE)
+        .collect();
     let declared = declared();
     tally.expect(
         called == declared,
@@ -352,4 +361,13 @@ pub fn values_from_marks(
     let kept = [x.holds(amplitudes), b.holds(blanked), out.hand_over(values)];
     record("values_from_marks", outcome.number, kept == [true; 3]);
     outcome
+}
+
+pub fn side_follow(kernel: u8, values: &[i16], planes: &[u16], scores: &mut [i32]) -> bool {
+    let (mut y, mut u) = (Bordered::new(values), Bordered::new(planes));
+    let mut out = Bordered::new(scores);
+    let accepted = library::side_follow(kernel, y.buffer(), u.buffer(), out.buffer());
+    let kept = [y.holds(values), u.holds(planes), out.hand_over(scores)];
+    record(SIDE, u32::from(!accepted), kept == [true; 3]);
+    accepted
 }
