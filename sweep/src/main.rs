@@ -26,6 +26,7 @@ mod traps;
 
 use std::env;
 use std::process::ExitCode;
+use std::thread;
 
 use paper::Kernel;
 use tally::Tally;
@@ -44,21 +45,36 @@ fn main() -> ExitCode {
     }
 }
 
+/// Two parts that take about the same time run side by side, each with its own count; what they print stays in order.
 fn sweep() -> ExitCode {
-    let mut tally = Tally::default();
     let all: Vec<Kernel> = (0..3).map(Kernel::new).collect();
-    kernels::sweep(&mut tally, &all);
-    follow::sweep(&mut tally, &all);
-    side::sweep(&mut tally, &all);
-    frames::sweep(&mut tally, &all);
-    decoding::sweep(&mut tally, &all);
-    plain::sweep(&mut tally, &all);
-    marks::sweep(&mut tally);
-    scales::sweep(&mut tally);
+    let (mut tally, rest) = thread::scope(|scope| {
+        let rest = scope.spawn(|| frames_and_marks(&all));
+        (kernels_and_words(&all), rest.join().unwrap())
+    });
+    tally.add(rest);
     recorded::report(&mut tally);
     if tally.end() {
         ExitCode::SUCCESS
     } else {
         ExitCode::FAILURE
     }
+}
+
+fn kernels_and_words(all: &[Kernel]) -> Tally {
+    let mut tally = Tally::default();
+    kernels::sweep(&mut tally, all);
+    follow::sweep(&mut tally, all);
+    side::sweep(&mut tally, all);
+    frames::sweep(&mut tally, all);
+    tally
+}
+
+fn frames_and_marks(all: &[Kernel]) -> Tally {
+    let mut tally = Tally::default();
+    decoding::sweep(&mut tally, all);
+    plain::sweep(&mut tally, all);
+    marks::sweep(&mut tally);
+    scales::sweep(&mut tally);
+    tally
 }

@@ -1,4 +1,4 @@
-//! Cases tried and cases wrong.
+//! Cases tried and cases wrong, and the lines that say so.
 use std::fmt::Arguments;
 
 /// How many wrong cases are printed; all are counted.
@@ -8,6 +8,7 @@ const SHOWN: u64 = 20;
 pub struct Tally {
     cases: u64,
     wrong: u64,
+    lines: Vec<String>,
 }
 
 impl Tally {
@@ -15,7 +16,7 @@ impl Tally {
     pub fn wrong(&mut self, what: Arguments) {
         self.wrong += 1;
         if self.wrong <= SHOWN {
-            println!("WRONG: {what}");
+            self.lines.push(format!("WRONG: {what}"));
         }
     }
 
@@ -34,11 +35,21 @@ impl Tally {
     /// A line of its own for some cases.
     pub fn line(&mut self, text: Arguments, cases: u64) {
         self.cases += cases;
-        println!("{text}");
+        self.lines.push(text.to_string());
     }
 
-    /// The last line, and whether no case was wrong.
+    /// The cases and lines of a part that ran beside this one.
+    pub fn add(&mut self, other: Tally) {
+        self.cases += other.cases;
+        self.wrong += other.wrong;
+        self.lines.extend(other.lines);
+    }
+
+    /// All lines and the last one, and whether no case was wrong.
     pub fn end(&self) -> bool {
+        for line in &self.lines {
+            println!("{line}");
+        }
         println!("sweep: {} cases, {} wrong", self.cases, self.wrong);
         self.wrong == 0
     }
