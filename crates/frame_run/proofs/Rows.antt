@@ -8,7 +8,7 @@ use native.Mathlib.Decide.{decLt}
 use native.Mathlib.Omega.{arith}
 use lib.IntN.{ℤ, pos}
 use lib.ListN.{length, getD, take, drop, set, replicate, length-set, length-append, List·getD-append}
-use lib.Seq.{paste, take-all, take-at, take-append-le, take-append-add, drop-drop, drop-append-add, getD-append-add, length-take-le, ext-getD, getD-set-same}
+use lib.Seq.{paste, take-all, take-at, take-append-le, take-append-add, drop-drop, drop-append-add, getD-append-add, length-take-le, ext-getD, getD-set-other}
 use Rattle.base.specs.Bit.{bit, tabulate}
 use Rattle.base.proofs.List.{length-tabulate, tabulate-at, tabulate-cong, tabulate-append}
 use Rattle.bits.specs.Packed.{bits}
@@ -24,11 +24,11 @@ use Rattle.folds.specs.Rows.{rowOf}
 use Rattle.kernel.specs.Kernels.{kernel, kernelCode}
 use Rattle.kernel.proofs.Solved.{invertible}
 use Rattle.grid.specs.Grid.{rowsBits}
-use Rattle.windows.specs.Paths.{Kept}
 use Rattle.frame.specs.Frames.{frameCode}
 use Rattle.run.specs.Run.{symbolBy, SymbolsBy, KernelRun}
 use Rattle.lane.specs.Lanes.{laneBit, laneCosts}
-use Rattle.lane_phases.specs.Rows.{column as laneColumn, scoreRows, HeldLanes, KeptLanes}
+use Rattle.lane_phases.specs.Rows.{column as laneColumn, HeldLanes, KeptLanes}
+use Rattle.lane_phases.proofs.Phases.{held-kept}
 use Rattle.frame_run.specs.Run.{front, FrameRun}
 use Rattle.frame_run.proofs.Prefixes.{length-front, front-next, front-all, column-next, planes-next}
 use Rattle.frame_run.proofs.Layered.{outer-is, row-score, row-penalty}
@@ -151,9 +151,6 @@ module _ (a b : ℕ) (ys : List ℤ) (costs : List (List (List ℕ))) (free give
       col-next : (j : ℕ) → laneColumn (set planes r w) (r + 1) j ≡ laneColumn planes r j ++ (laneBit w j ∷ [])
       col-next j = planes-next planes r w j (omega (arith, g .plane-room))
 
-      last : getD (set planes r w) (r + 1 - 1) 0 ≡ w
-      last = let e : r + 1 - 1 ≡ r = omega arith in ap (λ n. getD (set planes r w) n 0) e ∙ getD-set-same planes r w 0 (omega (arith, g .plane-room))
-
       pub row-next : AfterRows (r + 1) (set symbols r x) (set planes r w) rows3 (getD pe 15 0) (paste newScores (r * 16) sc 16) (paste newPenalties (r * 16) pe 16)
       row-next = record {
         within = omega arith;
@@ -176,9 +173,7 @@ module _ (a b : ℕ) (ys : List ℤ) (costs : List (List (List ℕ))) (free give
             col-next j ∙ ap₂ (λ t c. t ++ (c ∷ [])) (g .columns-so j l) (word-is j l)
             ∙ sym (column-next (code (kernel a)) r u p j lu lp)
             ∙ ap₂ (λ n v. column (code (kernel a)) (rows 16 n v) j) (sym (add-one r)) (sym next);
-        kept-so = λ _ j l.
-            subst⁻¹ (λ v. Kept b (laneCosts costs j) v (rowOf (scoreRows rows3 j) (laneBit (getD (set planes r w) (r + 1 - 1) 0) j))) (col-next j)
-            (subst⁻¹ (λ y. Kept b (laneCosts costs j) (laneColumn planes r j ++ (laneBit w j ∷ [])) (rowOf (scoreRows rows3 j) (laneBit y j))) last (held j l (laneBit w j)));
+        kept-so = λ _. held-kept b costs planes (set planes r w) r rows3 (λ i li. getD-set-other planes r i w 0 (λ e. omega arith)) held;
       }
 
       -- The same as the code has it.

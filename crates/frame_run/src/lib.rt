@@ -119,7 +119,7 @@ pub fn frame_run(
     let mut r: usize = 0;
     while r < 16 {
         let shape = outer_shapes[r];
-        lane_step::step(
+        let found = lane_step::step(
             outer,
             r,
             shape,
@@ -130,7 +130,6 @@ pub fn frame_run(
             &planes,
             &mut rows,
         );
-        let found = lane_rows::scores(&rows, step::path_count(shape, r));
         let row = hadamard_run::hadamard_run(inner, &found, free[r], given[r], penalty);
         store_run(row, r * 16, scores, penalties);
         penalty = row.penalties[15];

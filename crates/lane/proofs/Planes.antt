@@ -32,9 +32,6 @@ pub all-lanes : (l : ℕ) → l < 16 → laneBit 65535 l ≡ true
 all-lanes l ll = every-at 16 (laneBit 65535) ones l ll
 
 module _ (plane l : ℕ) (lp : plane < 2 ^ 16) (ll : l < 16) where
-  x : ℕ
-  x = bitAnd plane (getD laneBits l 0)
-
   at : (j : ℕ) → j < 16 → laneBit (bitAnd plane (getD laneBits l 0)) j ≡ laneBit plane j && eqb j l
   at j lj = and-at 16 plane (getD laneBits l 0) j ∙ ap (λ b. laneBit plane j && b) (one-bit l j ll lj)
 

@@ -23,7 +23,7 @@ fn node(other: u16, j: usize) -> usize
     }
 }
 
-// The eight places of a path folded onto two in each lane, all second halves free,
+// The eight places of a path folded onto two in each lane, where no first half is known,
 fn free_free(
     flags: &[u16; 16],
     nodes: &[[[u16; 16]; 2]; 16],
@@ -60,7 +60,7 @@ fn free_free(
     out
 }
 
-// the second first half known,
+// where that of the second fold is known,
 fn free_known(
     flags: &[u16; 16],
     nodes: &[[[u16; 16]; 2]; 16],
@@ -100,7 +100,7 @@ fn free_known(
     out
 }
 
-// the first one known,
+// where that of the first fold is known,
 fn known_free(
     flags: &[u16; 16],
     nodes: &[[[u16; 16]; 2]; 16],
@@ -158,7 +158,7 @@ fn known_free(
     out
 }
 
-// or both.
+// and where both are.
 fn known_known(
     flags: &[u16; 16],
     nodes: &[[[u16; 16]; 2]; 16],

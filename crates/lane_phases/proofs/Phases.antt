@@ -1,17 +1,17 @@
 -- Rows of sixteen kernels side by side hold what the step of one kernel owes in each lane, and their least ones give the scores. Assumes nothing.
-use mathlib.Core.Path.{_≡_, refl, sym, ap, ap₂, _∙_}
-use mathlib.Core.Bool.{Bool, true, false, _&&_}
+use mathlib.Core.Path.{_≡_, refl, sym, ap, ap₂, _∙_, subst⁻¹}
+use mathlib.Core.Bool.{Bool, true, false}
 use mathlib.Core.List.{List, [], _∷_, _++_}
 use Prim.Native.Nat.{ℕ, zero, suc, _+_, _-_, _*_, _/_, _%_, _^_, _≤_, _<_}
 use native.Mathlib.Nat.{lt-of-lt-of-le}
+use native.Mathlib.Numerals.{add-one}
 use native.Mathlib.Omega.{arith}
 use lib.IntN.{ℤ, pos, negℤ, natAbs, subℕ}
 use lib.ListN.{length, getD, length-append}
 use lib.Pow.{pow-pos}
-use Rattle.base.specs.Bit.{_⊕_, bit, digit, tabulate, parity}
-use Rattle.base.proofs.List.{length-tabulate, tabulate-at}
+use Rattle.base.specs.Bit.{_⊕_, bit, tabulate}
+use Rattle.base.proofs.List.{length-tabulate, tabulate-at, tabulate-next}
 use Rattle.bits.specs.Packed.{bits}
-use Rattle.bits.proofs.Packed.{length-bits, number-bits-fit}
 use Rattle.polar.specs.Code.{Costs, least, bestScore, score}
 use Rattle.polar.specs.Fold.{level, folded}
 use Rattle.polar.specs.Window.{pathOf}
@@ -29,7 +29,7 @@ use Rattle.windows.proofs.Tables.{shaped, again}
 use Rattle.windows.proofs.Words.{pow-le}
 use Rattle.windows.proofs.Steps.{fresh-held, again-small, again-held, by-paths}
 use Rattle.lane.specs.Lanes.{laneBit, laneCosts}
-use Rattle.lane_phases.specs.Rows.{column, scoreRows}
+use Rattle.lane_phases.specs.Rows.{column, scoreRows, HeldLanes, KeptLanes}
 
 -- An entry of a lane's rows.
 pub score-cell : (rows : List (List (List ℕ))) (l w : ℕ) (b : Bool) → w < 16 → cell (pos 0) (scoreRows rows l) w b ≡ negℤ (pos (laneCosts rows l w b))
@@ -54,12 +54,6 @@ four-rounds n y z m nodes same ln is b =
     ∙ folded-costs 3 (n % 8) (λ j. y (n / 8 * 8 + j)) (λ j l d. is j d l) (y n ⊕ b)
 
 module _ (k s : ℕ) (lk : k < 3) (ls : s < 16) (costs : List (List (List ℕ))) (planes : List ℕ) (l : ℕ) where
-  us : List Bool
-  us = column planes s l
-
-  m : Costs
-  m = laneCosts costs l
-
   long : length (column planes s l) ≡ s
   long = length-tabulate s (λ i. laneBit (getD planes i 0) l)
 
@@ -122,3 +116,13 @@ module _ (k s : ℕ) (lk : k < 3) (ls : s < 16) (costs : List (List (List ℕ)))
           let l16 : w < 16 = narrow d w (rw (← e) at lt) in
           entry b (length (column planes s l ++ (b ∷ []))) n w (rw (← n) at lt) l16 (h b w (rw (← n) at lt)))
           ∙ sym (by-paths k s lk ls (laneCosts costs l) (column planes s l) long b)
+
+-- From one phase to the next: the rows that a phase leaves are kept for the next one, whatever plane follows.
+pub held-kept : (k : ℕ) (costs : List (List (List ℕ))) (planes planes′ : List ℕ) (s : ℕ) (rows : List (List (List ℕ)))
+    → ((i : ℕ) → i < s → getD planes′ i 0 ≡ getD planes i 0) → HeldLanes k costs planes s rows → KeptLanes k costs planes′ (s + 1) rows
+held-kept k costs planes planes′ s rows same h l ll =
+    let e : s + 1 - 1 ≡ s = omega arith in
+    subst⁻¹ (λ n. Kept k (laneCosts costs l) (column planes′ (s + 1) l) (rowOf (scoreRows rows l) (laneBit (getD planes′ n 0) l))) e
+    (subst⁻¹ (λ (us : List Bool). Kept k (laneCosts costs l) us (rowOf (scoreRows rows l) (laneBit (getD planes′ s 0) l)))
+    (ap (λ n. column planes′ n l) (add-one s) ∙ tabulate-next s (λ i. laneBit (getD planes′ i 0) l) (λ i. laneBit (getD planes i 0) l) (λ i li. ap (λ x. laneBit x l) (same i li)))
+    (h l ll (laneBit (getD planes′ s 0) l)))

@@ -31,7 +31,6 @@ module _ (table planes words : List ℕ) (phase high : ℕ) (ls : phase ≤ high
   pub number-is : (n : ℕ) → ((i : ℕ) → i < 4 → bit (bits 4 n) i ≡ wordAt words l (12 + i)) → numberBefore table phase high planes w l b < 16
       → bitXor n c % 16 ≡ numberBefore table phase high planes w l b
   number-is n low small =
-      let x : ℕ = bitXor n c % 16 in
       let lx : bitXor n c % 16 < 16 = omega arith in
       sym (number-bits-fit 4 (bitXor n c % 16) lx)
       ∙ ap number (same-bits 4 (bits 4 (bitXor n c % 16)) (bits 4 (numberBefore table phase high planes w l b)) (length-bits 4 _) (length-bits 4 _) (λ i li.

@@ -1,15 +1,17 @@
 // One phase of sixteen kernels side by side: the least totals of all paths in each lane, from those of the phase before or folded
 // anew. Between two phases it needs the values, the planes of the symbols and these rows.
 ghost use mathlib.Core.Path.{_≡_};
-ghost use mathlib.Core.Bool.{Bool, true, false};
+ghost use mathlib.Core.Bool.{Bool};
 ghost use mathlib.Core.List.{[]};
-ghost use Prim.Native.Nat.{ℕ, _+_, _-_, _*_, _^_, _≤_, _<_};
+ghost use Prim.Native.Nat.{ℕ, _-_, _*_, _^_, _≤_, _<_};
+ghost use lib.IntN.{pos};
 ghost use lib.ListN.{length, getD};
-ghost use Rattle.base.specs.Bit;
+ghost use Rattle.polar.specs.Code.{score};
 ghost use Rattle.folds.specs.Rows.{cell};
+ghost use Rattle.kernel.specs.Kernels.{kernelCode};
 ghost use Rattle.windows.specs.Tables.{shapeTable, pathRows};
 ghost use Rattle.lane.specs.Lanes.{laneBits, laneBit, laneCosts, LanesWithin};
-ghost use Rattle.lane_phases.specs.Rows.{HeldLanes, KeptLanes};
+ghost use Rattle.lane_phases.specs.Rows.{column, HeldLanes, KeptLanes};
 ghost use Rattle.lane_step.specs.Step.{pathTotal, numberBefore, Halves};
 
 // The least totals of path w.
@@ -86,7 +88,7 @@ fn again(
 
 // The least totals of all paths with symbol 0 and with symbol 1 after a phase, in each lane: from those of the phase before and
 // the last plane, or folded from what the places pay and its fold onto eight.
-pub fn step(
+fn next_rows(
     kernel: usize,
     phase: usize,
     shape: [u8; 2],
@@ -100,7 +102,7 @@ pub fn step(
     requires { ⌜ (kernel < 3) × (phase < 16) × (now flags ≡ laneBits) ⌝ }
     requires { ⌜ (shape ≡ getD (getD shapeTable kernel []) phase []) × (now table ≡ pathRows kernel phase) ⌝ }
     requires { ⌜ LanesWithin 2047 (now costs) × LanesWithin 4095 (now halves) × Halves (now costs) (now halves) ⌝ }
-    requires { ⌜ (length (now rows) ≡ 16) × (0 < phase → KeptLanes kernel (now costs) (now planes) phase (now rows)) ⌝ }
+    requires { ⌜ (length (now rows) ≡ 16) × (0 < phase → (getD shape 1 0 ≡ 0 → ⊥) → KeptLanes kernel (now costs) (now planes) phase (now rows)) ⌝ }
     ensures room { λ _. ⌜ length (now (rows .exit)) ≡ 16 ⌝ }
     ensures held { λ _. ⌜ HeldLanes kernel (now (costs .entry)) (now (planes .entry)) phase (now (rows .exit)) ⌝ }
 {
@@ -116,4 +118,40 @@ pub fn step(
     }
     let nodes = lane_nodes::known_eight(flags, &words, phase < high, costs);
     all_paths(flags, table, phase, high, &nodes, words, rows);
+}
+
+// One phase of all sixteen: it leaves the rows of this phase, and hands back the score of each lane. Rows of the phase before are
+// asked for where the phase's relations reach no further; any other phase makes its own, whatever stood there.
+pub fn step(
+    kernel: usize,
+    phase: usize,
+    shape: [u8; 2],
+    flags: &[u16; 16],
+    table: &[u16; 16],
+    costs: &[[[u16; 16]; 2]; 16],
+    halves: &[[[u16; 16]; 2]; 16],
+    planes: &[u16; 16],
+    rows: &mut [[[u16; 16]; 2]; 16],
+) -> [i32; 16]
+    requires { ⌜ (kernel < 3) × (phase < 16) × (now flags ≡ laneBits) ⌝ }
+    requires { ⌜ (shape ≡ getD (getD shapeTable kernel []) phase []) × (now table ≡ pathRows kernel phase) ⌝ }
+    requires { ⌜ LanesWithin 2047 (now costs) × LanesWithin 4095 (now halves) × Halves (now costs) (now halves) ⌝ }
+    requires { ⌜ (length (now rows) ≡ 16) × (0 < phase → (getD shape 1 0 ≡ 0 → ⊥) → KeptLanes kernel (now costs) (now planes) phase (now rows)) ⌝ }
+    ensures room { λ _. ⌜ length (now (rows .exit)) ≡ 16 ⌝ }
+    ensures held { λ _. ⌜ HeldLanes kernel (now (costs .entry)) (now (planes .entry)) phase (now (rows .exit)) ⌝ }
+    ensures scores { λ r. ⌜ ((l : ℕ) → l < 16 → getD r l (pos 0) ≡ score (kernelCode kernel) (laneCosts (now (costs .entry)) l) (column (now (planes .entry)) phase l)) ⌝ }
+{
+    next_rows(
+        kernel,
+        phase,
+        shape,
+        flags,
+        table,
+        costs,
+        halves,
+        planes,
+        rows,
+    );
+    let high = shape[0] as usize;
+    lane_rows::scores(rows, 1 << (high - phase))
 }

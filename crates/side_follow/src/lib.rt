@@ -29,7 +29,7 @@ pub fn run(kernel: usize, costs: &[[[u16; 16]; 2]; 16], planes: &[u16; 16]) -> [
     let mut s: usize = 0;
     while s < 16 {
         let shape = shapes[s];
-        lane_step::step(
+        out[s] = lane_step::step(
             kernel,
             s,
             shape,
@@ -40,7 +40,6 @@ pub fn run(kernel: usize, costs: &[[[u16; 16]; 2]; 16], planes: &[u16; 16]) -> [
             planes,
             &mut rows,
         );
-        out[s] = lane_rows::scores(&rows, step::path_count(shape, s));
         s += 1;
     }
     out
@@ -148,7 +147,7 @@ fn accepted(kernel: u8, values: &[i16], planes: usize, room: usize) -> bool
 
 // The scores of sixteen symbols in each of sixteen lanes; whether the request was accepted.
 #[no_mangle]
-pub extern "C" fn nospridda_side_follow(
+pub extern "C" fn nospridda_test_side_follow(
     kernel: u8,
     values: &[i16],
     planes: &[u16],

@@ -21,7 +21,7 @@ use Rattle.lane.specs.Lanes.{laneCosts}
 use Rattle.lane_phases.specs.Rows.{column}
 use Rattle.frame_run.specs.Run.{front}
 use Rattle.frame_run.proofs.Rows.{AfterRows, no-row, row-turn, all-rows}
-use Rattle.frame_run.proofs.Premises.{word-of, penalty-small, lanes-wider, outer-asks, outer-values, narrow-scores, narrow-penalties}
+use Rattle.frame_run.proofs.Premises.{word-of, penalty-small, lanes-wider, outer-inside, narrow-scores, narrow-penalties}
 use borrow.Author.Needs.{needs}
 use Rattle.frame_run.proofs.frame_run.Statement.{statement}
 use Rattle.frame_run.proofs.frame_run.Tie as tie
@@ -84,22 +84,10 @@ step-requires c κs =
         (ap (λ t. getD t (l .r) []) (q .before .before .before .before .before .before .before .shapes-of .ensures), ap (λ t. getD t (l .r) []) (q .before .before .before .before .before .before .tables-of .ensures)),
         (
           (lanes-wider 127 _ (m .result) (omega arith) (m .ensures .1), lanes-wider 254 _ (h .result) (omega arith) (h .ensures .1 127 (m .ensures .1)), h .ensures .0),
-          (l .inv .0 .row-room, l .inv .0 .kept-so),
+          (l .inv .0 .row-room, λ z _. l .inv .0 .kept-so z),
         ),
       ),
     )
-
-path-count-requires : tie.Need-path-count-requires Inv-loop μ-loop
-path-count-requires c κs =
-    let q = c .before .before .before .before .before .before .before .before .before .before in
-    let z = q .before .before .before .before .before .before .before .before .before in
-    in-range (z .args .outer) (q .loop .r) (z .pre .outer) (c .before .before .before .before .before .before .before .before .before .loop-test .taken) 0 _ (ap (λ t. getD t (q .loop .r) []) (q .before .before .before .before .before .before .before .shapes-of .ensures))
-
-scores-requires : tie.Need-scores-requires Inv-loop μ-loop
-scores-requires c κs =
-    let q = c .before .before .before .before .before .before .before .before .before .before .before in
-    let z = q .before .before .before .before .before .before .before .before .before in
-    outer-asks (z .args .outer) (z .pre .outer) _ (q .before .before .before .before .before .before .before .shapes-of .ensures) (q .loop .r) (c .before .before .before .before .before .before .before .before .before .before .loop-test .taken) _ (c .path-count .ensures)
 
 slice-aggregate-hadamard-run : tie.Need-slice-aggregate-hadamard-run Inv-loop μ-loop
 slice-aggregate-hadamard-run c = search needs
@@ -116,18 +104,13 @@ mul-hadamard-run-2 c = search needs
 array-read-hadamard-run-2 : tie.Need-array-read-hadamard-run-2 Inv-loop μ-loop
 array-read-hadamard-run-2 c = search needs
 
--- The inner kernel's values are the scores of the outer kernels, and small,
-values-are : (c : tie.After-scores Inv-loop μ-loop)
-    → (let q = c .before .before .before .before .before .before .before .before .before .before .before .before in
-    ((j : ℕ) → j < 16 → getD (c .scores .result) j (pos 0) ≡ score (kernelCode (q .before .before .before .before .before .before .before .before .before .args .outer)) (laneCosts (q .before .before .before .outer-costs .result) j) (column (q .loop .planes) (q .loop .r) j))
-    × (firstOutside (16 * 127) (c .scores .result) ≡ length (c .scores .result)))
-values-are c =
-    let q = c .before .before .before .before .before .before .before .before .before .before .before .before in
+-- The inner kernel's values, the scores of the outer kernels, are small,
+values-inside : (c : tie.After-step Inv-loop μ-loop) → firstOutside (16 * 127) (c .step .result) ≡ length (c .step .result)
+values-inside c =
+    let q = c .before .before .before .before .before .before .before .before .before in
     let z = q .before .before .before .before .before .before .before .before .before in
     let m = q .before .before .before .outer-costs in
-    let h = c .before .before .before .step in
-    outer-values (z .args .outer) (z .pre .outer) _ (q .before .before .before .before .before .before .before .shapes-of .ensures) (q .loop .r) (c .before .before .before .before .before .before .before .before .before .before .before .loop-test .taken) _ (c .before .path-count .ensures)
-    (z .args .values .now) (z .pre .inside ∙ sym (z .pre .count)) (m .result) (m .ensures .0) (q .loop .planes) (h .last .1 .1 .1 .1 .1 .1 .1 .1 .0) (h .ensures .1) (c .scores .result) (c .scores .ensures) (search needs)
+    outer-inside (z .args .outer) (z .args .values .now) (z .pre .inside ∙ sym (z .pre .count)) (m .result) (m .ensures .0) (q .loop .planes) (q .loop .r) (c .step .result) (c .step .ensures .1 .1) (search needs)
 
 -- and so is the penalty of the rows so far.
 small-penalty : (c : tie.At-loop Inv-loop μ-loop) → c .loop .penalty ≤ 256 * 127
@@ -137,10 +120,10 @@ small-penalty c =
 
 hadamard-run-requires : tie.Need-hadamard-run-requires Inv-loop μ-loop
 hadamard-run-requires c κs =
-    let q = c .before .before .before .before .before .before .before .before .before .before .before .before .before in
-    let f = c .before .scores .result in
+    let q = c .before .before .before .before .before .before .before .before .before .before in
+    let f = c .before .step .result in
     let long : length f ≡ 16 = search needs in
-    (q .before .before .before .before .before .before .before .before .before .pre .inner, omega (arith, small-penalty q), long, outside-wider (16 * 127) valueLimit frame-inside f (values-are (c .before) .1) ∙ long)
+    (q .before .before .before .before .before .before .before .before .before .pre .inner, omega (arith, small-penalty q), long, outside-wider (16 * 127) valueLimit frame-inside f (values-inside (c .before)) ∙ long)
 
 -- A row has sixteen penalties.
 penalties-long : (c : tie.After-hadamard-run Inv-loop μ-loop) → length (c .hadamard-run .result .penalties) ≡ 16
@@ -151,16 +134,16 @@ mul-store-run c = search needs
 
 store-run-requires : tie.Need-store-run-requires Inv-loop μ-loop
 store-run-requires c κs =
-    let q = c .before .before .before .before .before .before .before .before .before .before .before .before .before .before .before .before in
+    let q = c .before .before .before .before .before .before .before .before .before .before .before .before .before in
     let z = q .before .before .before .before .before .before .before .before .before in
-    let t = c .before .before .before .before .before .before .before .before .before .before .before .before .before .before .before .loop-test .taken in
+    let t = c .before .before .before .before .before .before .before .before .before .before .before .before .loop-test .taken in
     let row = c .before .before .hadamard-run in
     let f = c .before .before .before .before in
-    let found = f .scores .result in (
+    let found = f .step .result in (
       (omega (arith, q .loop .inv .1, z .pre .score-room, t), omega (arith, q .loop .inv .2, z .pre .penalty-room, t)),
       (
-        narrow-scores (z .args .inner) found (values-are f .1) _ _ _ _ _ _ (row .ensures),
-        narrow-penalties (z .args .inner) found (values-are f .1) _ _ _ _ _ _ (row .ensures) (omega (arith, small-penalty q)),
+        narrow-scores (z .args .inner) found (values-inside f) _ _ _ _ _ _ (row .ensures),
+        narrow-penalties (z .args .inner) found (values-inside f) _ _ _ _ _ _ (row .ensures) (omega (arith, small-penalty q)),
       ),
     )
 
@@ -177,8 +160,8 @@ row-sum-requires : tie.Need-row-sum-requires Inv-loop μ-loop
 row-sum-requires c κs = search needs
 
 -- The row that was run is one of the sixteen.
-row-is : (c : tie.After-row-sum Inv-loop μ-loop) → c .before .before .before .before .before .before .before .before .before .before .before .before .before .before .before .before .before .before .before .before .before .before .loop .r < 16
-row-is c = c .before .before .before .before .before .before .before .before .before .before .before .before .before .before .before .before .before .before .before .before .before .loop-test .taken
+row-is : (c : tie.After-row-sum Inv-loop μ-loop) → c .before .before .before .before .before .before .before .before .before .before .before .before .before .before .before .before .before .before .before .loop .r < 16
+row-is c = c .before .before .before .before .before .before .before .before .before .before .before .before .before .before .before .before .before .before .loop-test .taken
 
 mul-planes : tie.Need-mul-planes Inv-loop μ-loop
 mul-planes c = omega (arith, row-is c)
@@ -195,13 +178,13 @@ loop-less c = omega (arith, row-is c)
 loop-again : tie.Need-loop-again Inv-loop μ-loop
 loop-again c =
     let f = c .before .before .before .before .before .before .before .before .before .before in
-    let q = f .before .before .before .before .before .before .before .before .before .before .before .before in
+    let q = f .before .before .before .before .before .before .before .before .before in
     let z = q .before .before .before .before .before .before .before .before .before in
     let a = z .args in
     let l = q .loop in
     let lr : l .r < 16 = row-is c in
     let m = q .before .before .before .outer-costs in
-    let h = f .before .before .before .step in
+    let h = f .step in
     let row = c .before .before .before .before .before .before .before .before .hadamard-run in
     let stored = c .before .before .before .before .before .store-run in
     let long = penalties-long (c .before .before .before .before .before .before .before .before) in
@@ -209,12 +192,12 @@ loop-again c =
     sym (ap (bit (rowsBits t)) (let e : l .r * 16 + s ≡ 16 * l .r + s = omega arith in e) ∙ rows-bits-at t (l .r) s lr ls) in (
       row-turn (a .inner) (a .outer) (a .values .now) (m .result) _ _ (a .scores .now) (a .penalties .now) (m .ensures .0)
           (l .r) (l .symbols) (l .planes) (l .rows) (l .penalty) (l .scores) (l .penalties) (l .inv .0) lr
-          (f .scores .result) (values-are f .0)
+          (h .result) (h .ensures .1 .1)
           (getD (a .t4) (l .r) 0) (getD (a .t5) (l .r) 0) (row .result .symbols) (row .result .scores) (row .result .penalties) (at (a .t4)) (at (a .t5)) (row .ensures) long
           (c .row-sum .result)
           (λ j lj. ap (λ v. bit (bits 16 v) j) (c .row-sum .ensures ∙ ap (λ t. rowSum t (row .result .symbols)) (q .before .before .before .before .before .kernel-rows .ensures)) ∙ word-of (a .inner) (row .result .symbols) j (z .pre .inner) lj)
-          (h .last .1 .1 .1 .1 .1 .1 .1 .1 .0) (h .ensures .0) (h .ensures .1) _ (stored .ensures .0) _ (stored .ensures .1),
-      search (needs, c .before .before .before .before .scores2, l .inv),
+          (h .last .1 .1 .1 .1 .1 .1 .1 .1 .0) (h .ensures .0) (h .ensures .1 .0) _ (stored .ensures .0) _ (stored .ensures .1),
+      search (needs, c .before .before .before .before .scores, l .inv),
       search (needs, c .before .before .before .penalties, l .inv),
     )
 
@@ -250,8 +233,6 @@ frame-run-spec =
     mul-step
     index-1-step
     step-requires
-    path-count-requires
-    scores-requires
     slice-aggregate-hadamard-run
     mul-hadamard-run
     array-read-hadamard-run

@@ -7,7 +7,7 @@ use Rattle.polar.specs.Fold.{knownFold}
 use Rattle.folds.proofs.Fill.{Filled, filled-none, fill-both}
 use Rattle.lane.specs.Lanes.{laneBit}
 use Rattle.lane_paths.specs.Places.{twoCosts}
-use Rattle.lane_paths.proofs.Turn.{Held, two-held, known-held, small, lane-bit, turned-pays}
+use Rattle.lane_paths.proofs.Turn.{PaysAtMost, two-held, known-held, small, lane-bit, turned-pays}
 use Rattle.lane_paths.proofs.last_known.Statement.{statement}
 use Rattle.lane_paths.proofs.last_known.Tie as tie
 
@@ -37,7 +37,7 @@ of-two-requires-2 c κs = search needs
 
 -- What was read of the two places.
 read : (c : tie.After-of-two2 Inv-loop μ-loop) → (let k = c .before .before .before .before .before in let m = twoCosts (k .before .args .two .now) (k .loop .l) in
-    Held m 0 16383 (c .before .of-two .result .zero) (c .before .of-two .result .one) × Held m 1 16383 (c .of-two2 .result .zero) (c .of-two2 .result .one))
+    PaysAtMost m 0 16383 (c .before .of-two .result .zero) (c .before .of-two .result .one) × PaysAtMost m 1 16383 (c .of-two2 .result .zero) (c .of-two2 .result .one))
 read c =
     let k = c .before .before .before .before .before in
     let ll = c .before .before .before .before .loop-test .taken in

@@ -4,7 +4,7 @@ use mathlib.Core.List.{[]}
 use Prim.Native.Nat.{_-_}
 use native.Mathlib.Omega.{arith}
 use lib.ListN.{getD}
-use Rattle.side_follow.proofs.Phases.{AfterSide, no-phase, numbers, some-paths, phase-next}
+use Rattle.side_follow.proofs.Phases.{AfterSide, no-phase, phase-next}
 use borrow.Author.Needs.{needs}
 use Rattle.side_follow.proofs.run.Statement.{statement}
 use Rattle.side_follow.proofs.run.Tie as tie
@@ -52,16 +52,10 @@ step-requires c κs =
         (ap (λ t. getD t (l .s) []) (c .before .before .before .before .before .before .before .before .before .shapes-of .ensures), ap (λ t. getD t (l .s) []) (c .before .before .before .before .before .before .before .before .tables-of .ensures)),
         (
           (z .pre .1, λ j lj p b lp. omega (arith, h .1 2047 (z .pre .1) j lj p b lp), h .0),
-          (l .inv .row-room, l .inv .kept-so),
+          (l .inv .row-room, λ z _. l .inv .kept-so z),
         ),
       ),
     )
-
-path-count-requires : tie.Need-path-count-requires Inv-loop μ-loop
-path-count-requires c κs = numbers (c .before .before .before .before .before .before .before .before .before .before .before .before .before .args .kernel) (c .before .before .before .before .before .before .before .before .before .before .before .before .before .pre .0) _ (c .before .before .before .before .before .before .before .before .before .before .before .shapes-of .ensures) (c .before .before .before .before .before .before .before .before .loop .s) (search needs)
-
-scores-requires : tie.Need-scores-requires Inv-loop μ-loop
-scores-requires c κs = some-paths (c .before .before .before .before .before .before .before .before .before .before .before .before .before .before .args .kernel) (c .before .before .before .before .before .before .before .before .before .before .before .before .before .before .pre .0) _ (c .before .before .before .before .before .before .before .before .before .before .before .before .shapes-of .ensures) (c .before .before .before .before .before .before .before .before .before .loop .s) (search needs) _ (c .path-count .ensures)
 
 mul-out : tie.Need-mul-out Inv-loop μ-loop
 mul-out c = search needs
@@ -77,11 +71,11 @@ loop-less c = search needs
 
 loop-again : tie.Need-loop-again Inv-loop μ-loop
 loop-again c =
-    let l = c .before .before .before .before .before .before .before .before .before .before .loop in
-    let z = c .before .before .before .before .before .before .before .before .before .before .before .before .before .before .before in
-    let t = c .before .before .before .step in
-    phase-next (z .args .kernel) (z .pre .0) _ (c .before .before .before .before .before .before .before .before .before .before .before .before .before .shapes-of .ensures) (l .s) (search needs) (z .args .costs .now) (z .args .planes .now) (l .rows) (l .out) (l .inv)
-    (t .last .1 .1 .1 .1 .1 .1 .1 .1 .0) (t .ensures .0) (t .ensures .1) (c .before .path-count .result) (c .before .path-count .ensures) (c .scores .result) (c .scores .ensures)
+    let l = c .before .before .before .before .before .before .before .loop in
+    let z = c .before .before .before .before .before .before .before .before .before .before .before .before in
+    let t = c .step in
+    phase-next (z .args .kernel) (z .args .costs .now) (z .args .planes .now) (l .s) (search needs) (l .rows) (l .out) (l .inv)
+    (t .last .1 .1 .1 .1 .1 .1 .1 .1 .0) (t .ensures .0) (t .ensures .1 .0) (t .result) (t .ensures .1 .1)
 
 returns : tie.Need-returns Inv-loop μ-loop
 returns c = λ s l ls ll. c .before .loop .inv .scores-so s (omega arith) l ll
@@ -102,8 +96,6 @@ run-spec =
     mul-step
     index-1-step
     step-requires
-    path-count-requires
-    scores-requires
     mul-out
     array-set-from-out
     add-s

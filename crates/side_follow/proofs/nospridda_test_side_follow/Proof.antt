@@ -1,4 +1,4 @@
--- `side_follow::nospridda_side_follow` meets its contract: refused it leaves the buffer, accepted it writes the scores of a run. Assumes nothing.
+-- `side_follow::nospridda_test_side_follow` meets its contract: refused it leaves the buffer, accepted it writes the scores of a run. Assumes nothing.
 use mathlib.Core.Path.{_≡_, sym, _∙_}
 use mathlib.Core.Bool.{true}
 use lib.ListN.{length}
@@ -7,8 +7,8 @@ use Rattle.side_follow.specs.Follow.{sideAccepted}
 use Rattle.side_follow.proofs.Values.{lanes-within}
 use Rattle.side_follow.proofs.Requests.{Fitting, fitting, refused, followed}
 use borrow.Author.Needs.{needs}
-use Rattle.side_follow.proofs.nospridda_side_follow.Statement.{statement}
-use Rattle.side_follow.proofs.nospridda_side_follow.Tie as tie
+use Rattle.side_follow.proofs.nospridda_test_side_follow.Statement.{statement}
+use Rattle.side_follow.proofs.nospridda_test_side_follow.Tie as tie
 
 accepted-requires : tie.Need-accepted-requires
 accepted-requires c κs = search needs
@@ -55,8 +55,8 @@ returns-2 c =
     let r = c .before .before .before .before .run in
     followed (a .kernel) (a .values .now) (a .planes .now) (a .scores .now) (pass e) (m .result) (m .ensures) (p .result) (p .ensures) (r .result) (r .ensures) _ (c .before .store .ensures)
 
-pub nospridda-side-follow-spec : {M : Type 1} → statement M
-nospridda-side-follow-spec =
+pub nospridda-test-side-follow-spec : {M : Type 1} → statement M
+nospridda-test-side-follow-spec =
     tie.close
     (tie.spec
     accepted-requires
