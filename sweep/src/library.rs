@@ -95,7 +95,7 @@ extern "C" {
     ) -> Outcome;
     fn nospridda_test_word_by_rows(kernel: u8, symbols: u16) -> u16;
     fn nospridda_test_word_by_bits(kernel: u8, symbols: u16) -> u16;
-    fn nospridda_side_follow(
+    fn nospridda_test_side_follow(
         kernel: u8,
         values: *const i16,
         values_length: usize,
@@ -281,7 +281,7 @@ pub fn word_by_bits(kernel: u8, symbols: u16) -> u16 {
 pub fn side_follow(kernel: u8, values: &[i16], planes: &[u16], scores: &mut [i32]) -> bool {
     // Safe for every input, as with kernel follow.
     unsafe {
-        nospridda_side_follow(
+        nospridda_test_side_follow(
             kernel,
             values.as_ptr(),
             values.len(),

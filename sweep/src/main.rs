@@ -49,8 +49,8 @@ fn main() -> ExitCode {
 fn sweep() -> ExitCode {
     let all: Vec<Kernel> = (0..3).map(Kernel::new).collect();
     let (mut tally, rest) = thread::scope(|scope| {
-        let rest = scope.spawn(|| frames_and_marks(&all));
-        (kernels_and_words(&all), rest.join().unwrap())
+        let rest = scope.spawn(|| decoding_and_marks(&all));
+        (kernels_and_undoing(&all), rest.join().unwrap())
     });
     tally.add(rest);
     recorded::report(&mut tally);
@@ -61,7 +61,7 @@ fn sweep() -> ExitCode {
     }
 }
 
-fn kernels_and_words(all: &[Kernel]) -> Tally {
+fn kernels_and_undoing(all: &[Kernel]) -> Tally {
     let mut tally = Tally::default();
     kernels::sweep(&mut tally, all);
     follow::sweep(&mut tally, all);
@@ -70,7 +70,7 @@ fn kernels_and_words(all: &[Kernel]) -> Tally {
     tally
 }
 
-fn frames_and_marks(all: &[Kernel]) -> Tally {
+fn decoding_and_marks(all: &[Kernel]) -> Tally {
     let mut tally = Tally::default();
     decoding::sweep(&mut tally, all);
     plain::sweep(&mut tally, all);

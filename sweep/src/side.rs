@@ -218,7 +218,8 @@ fn signs(scores: &Scores) -> u16 {
     pack(|s| scores[s] < 0)
 }
 
-/// Sixteen different lanes in each call, with any symbols or, in every other call, those of a decoder that went astray.
+/// Sixteen different lanes in each call, with any symbols or, in every third turn of sixteen calls, those of a decoder that went
+/// astray.
 fn random_cases(tally: &mut Tally, kernel: &Kernel, random: &mut Random, met: &mut Met) {
     let number = kernel.number;
     let mut paid = Vec::new();
@@ -228,7 +229,8 @@ fn random_cases(tally: &mut Tally, kernel: &Kernel, random: &mut Random, met: &m
                 values: make(random, kernel),
                 symbols: random.word(),
             });
-            if turn % 2 == 1 {
+            // By turns of sixteen, so that every lane meets both kinds.
+            if turn / 16 % 3 == 1 {
                 for lane in &mut lanes {
                     lane.symbols = signs(&alone(number, *lane));
                 }
@@ -236,8 +238,8 @@ fn random_cases(tally: &mut Tally, kernel: &Kernel, random: &mut Random, met: &m
             let l = turn % 16;
             if turn < WATCHED {
                 totals(kernel, &lanes[l].values, pay, &mut paid);
-                // Each lane with any symbols and with those of the best word.
-                if turn / 16 % 2 == 1 {
+                // Each lane also with the symbols of the best word.
+                if turn / 16 % 3 == 2 {
                     lanes[l].symbols = best_symbols(&paid);
                 }
             }

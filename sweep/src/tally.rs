@@ -16,7 +16,7 @@ impl Tally {
     pub fn wrong(&mut self, what: Arguments) {
         self.wrong += 1;
         if self.wrong <= SHOWN {
-            self.lines.push(format!("WRONG: {what}"));
+            eprintln!("WRONG: {what}");
         }
     }
 
