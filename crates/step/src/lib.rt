@@ -13,7 +13,7 @@ ghost use Rattle.folds.specs.Range.{valueLimit};
 ghost use Rattle.folds.specs.Rows.{rowOf, cell, costsOf, Within, Pays};
 ghost use Rattle.windows.specs.Tables.{shapeTable, pathTable, pathRows};
 ghost use Rattle.windows.specs.Paths.{Kept, Held, Choice, pathWordOf, FourOf, lastLeast, pathLeast, IsDifference};
-use folds::PlaceCosts;
+use place_folds::PlaceCosts;
 
 mod phases;
 
@@ -63,15 +63,15 @@ fn two_folds(costs: &[[u32; 16]; 2], high: usize, word: u32) -> [[u32; 4]; 2]
     ensures { λ r. ⌜ FourOf (now (costs .entry)) high r word ⌝ }
 {
     if high < 4 {
-        return folds::free_free(costs);
+        return place_folds::free_free(costs);
     }
     if 12 <= high {
-        return folds::known_known(costs, word);
+        return place_folds::known_known(costs, word);
     }
     if high < 8 {
-        return folds::free_known(costs, word);
+        return place_folds::free_known(costs, word);
     }
-    folds::known_free(costs, word)
+    place_folds::known_free(costs, word)
 }
 
 // The best score that belongs to a least total.
@@ -105,19 +105,19 @@ fn last_two(four: &[[u32; 4]; 2], high: usize, word: u32) -> PlaceCosts
 {
     let half_known = 2 <= high % 4;
     let from = high / 4 * 4;
-    let p = folds::fold_pair(
+    let p = place_folds::fold_pair(
         half_known,
         bits::word_bit(word, from),
         place(four, 0),
         place(four, 2),
     );
-    let q = folds::fold_pair(
+    let q = place_folds::fold_pair(
         half_known,
         bits::word_bit(word, from + 1),
         place(four, 1),
         place(four, 3),
     );
-    folds::fold_pair(1 <= high % 2, bits::word_bit(word, high / 2 * 2), p, q)
+    place_folds::fold_pair(1 <= high % 2, bits::word_bit(word, high / 2 * 2), p, q)
 }
 
 // The best scores of a path, by what its first two folds left.

@@ -1,14 +1,14 @@
--- `folds::known_at` meets its contract. Assumes nothing.
+-- `place_folds::known_at` meets its contract. Assumes nothing.
 use native.Mathlib.Omega.{arith}
 use Rattle.base.specs.Bit.{bit}
 use Rattle.bits.specs.Packed.{bits}
 use Rattle.folds.specs.Range.{valueLimit}
 use Rattle.folds.specs.Rows.{costsOf}
 use Rattle.folds.proofs.Limit.{limit-room}
 use Rattle.folds.proofs.Pairs.{pays-small, known-pays}
 use borrow.Author.Needs.{needs}
-use Rattle.folds.proofs.known_at.Statement.{statement}
-use Rattle.folds.proofs.known_at.Tie as tie
+use Rattle.place_folds.proofs.known_at.Statement.{statement}
+use Rattle.place_folds.proofs.known_at.Tie as tie
 
 word-bit-requires : tie.Need-word-bit-requires
 word-bit-requires c κs = search needs

@@ -1,12 +1,12 @@
--- `folds::free_at` meets its contract. Assumes nothing.
+-- `place_folds::free_at` meets its contract. Assumes nothing.
 use native.Mathlib.Omega.{arith}
 use Rattle.folds.specs.Range.{valueLimit}
 use Rattle.folds.specs.Rows.{costsOf}
 use Rattle.folds.proofs.Limit.{limit-room}
 use Rattle.folds.proofs.Pairs.{pays-small, free-pays}
 use borrow.Author.Needs.{needs}
-use Rattle.folds.proofs.free_at.Statement.{statement}
-use Rattle.folds.proofs.free_at.Tie as tie
+use Rattle.place_folds.proofs.free_at.Statement.{statement}
+use Rattle.place_folds.proofs.free_at.Tie as tie
 
 place-requires : tie.Need-place-requires
 place-requires c κs = search needs

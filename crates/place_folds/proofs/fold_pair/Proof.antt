@@ -1,9 +1,9 @@
--- `folds::fold_pair` meets its contract. Assumes nothing.
+-- `place_folds::fold_pair` meets its contract. Assumes nothing.
 use mathlib.Core.Path.{sym, _∙_}
 use mathlib.Core.Bool.{true≢false}
 use borrow.Author.Needs.{needs}
-use Rattle.folds.proofs.fold_pair.Statement.{statement}
-use Rattle.folds.proofs.fold_pair.Tie as tie
+use Rattle.place_folds.proofs.fold_pair.Statement.{statement}
+use Rattle.place_folds.proofs.fold_pair.Tie as tie
 
 known-requires : tie.Need-known-requires
 known-requires c κs = search needs

@@ -1,9 +1,9 @@
--- `folds::known` meets its contract. Assumes nothing.
+-- `place_folds::known` meets its contract. Assumes nothing.
 use native.Mathlib.Omega.{arith}
 use borrow.Author.Needs.{needs}
 use Rattle.folds.proofs.Pairs.{select-le}
-use Rattle.folds.proofs.known.Statement.{statement}
-use Rattle.folds.proofs.known.Tie as tie
+use Rattle.place_folds.proofs.known.Statement.{statement}
+use Rattle.place_folds.proofs.known.Tie as tie
 
 pick-requires : tie.Need-pick-requires
 pick-requires c κs = search needs

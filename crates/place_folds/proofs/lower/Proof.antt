@@ -1,8 +1,8 @@
--- `folds::lower` meets its contract. Assumes nothing.
+-- `place_folds::lower` meets its contract. Assumes nothing.
 use borrow.Author.Needs.{needs}
 use Rattle.folds.proofs.Shortfall.{lower-fits, lower-cast, lower-is}
-use Rattle.folds.proofs.lower.Statement.{statement}
-use Rattle.folds.proofs.lower.Tie as tie
+use Rattle.place_folds.proofs.lower.Statement.{statement}
+use Rattle.place_folds.proofs.lower.Tie as tie
 
 cast-result : tie.Need-cast-result
 cast-result c = search needs

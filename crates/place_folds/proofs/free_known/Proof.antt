@@ -1,22 +1,24 @@
--- `folds::free_free` meets its contract. The rows are filled with the folded costs below place i. Assumes nothing.
+-- `place_folds::free_known` meets its contract. The rows are filled with the folded costs below place i. Assumes nothing.
 use mathlib.Core.Path.{_≡_}
 use Prim.Native.Nat.{_+_, _-_, _≤_}
 use native.Mathlib.Omega.{arith}
 use borrow.Author.Needs.{needs}
-use Rattle.polar.specs.Fold.{freeFold}
+use Rattle.base.specs.Bit.{bit}
+use Rattle.bits.specs.Packed.{bits}
+use Rattle.polar.specs.Fold.{freeFold, knownFold}
 use Rattle.folds.specs.Range.{valueLimit}
 use Rattle.folds.specs.Rows.{costsOf}
 use Rattle.folds.proofs.Fill.{Filled, filled-none, fill-both}
 use Rattle.folds.proofs.Limit.{limit-room}
-use Rattle.folds.proofs.Pairs.{pays-small, free-le, free-pays}
-use Rattle.folds.proofs.free_free.Statement.{statement}
-use Rattle.folds.proofs.free_free.Tie as tie
+use Rattle.folds.proofs.Pairs.{pays-small, free-le, known-pays}
+use Rattle.place_folds.proofs.free_known.Statement.{statement}
+use Rattle.place_folds.proofs.free_known.Tie as tie
 
 abbrev Inv-loop : tie.InvT-loop
-Inv-loop rows out₀ i₀ out i = (i ≤ 4) × Filled 0 4 i (freeFold 4 (freeFold 8 (costsOf rows))) out
+Inv-loop rows word out₀ i₀ out i = (i ≤ 4) × Filled 0 4 i (knownFold 4 (bit (bits 16 word)) (freeFold 8 (costsOf rows))) out
 
 abbrev μ-loop : tie.MeasureT-loop
-μ-loop rows out₀ i₀ out i = 4 - i
+μ-loop rows word out₀ i₀ out i = 4 - i
 
 loop-holds : tie.Need-loop-holds Inv-loop μ-loop
 loop-holds c = (search needs, filled-none 0 4 _)
@@ -30,9 +32,12 @@ add-free-at c = search needs
 free-at-requires-2 : tie.Need-free-at-requires-2 Inv-loop μ-loop
 free-at-requires-2 c κs = search needs
 
-free-requires : tie.Need-free-requires Inv-loop μ-loop
-free-requires c κs =
-    let d = c in
+word-bit-requires : tie.Need-word-bit-requires Inv-loop μ-loop
+word-bit-requires c κs = search needs
+
+known-requires : tie.Need-known-requires Inv-loop μ-loop
+known-requires c κs =
+    let d = c .before in
     let s = d .before .before .before .before in
     let m = (freeFold 8 (costsOf (s .args .rows .now))) in
     let most = (free-le 8 (costsOf (s .args .rows .now)) valueLimit (λ j b _. s .pre j b)) in
@@ -66,11 +71,11 @@ loop-less c = search needs
 
 loop-again : tie.Need-loop-again Inv-loop μ-loop
 loop-again c =
-    let d = c .before in
+    let d = c .before .before in
     let k = d .before .before .before .loop in
     let s = d .before .before .before .before in
     let m = (freeFold 8 (costsOf (s .args .rows .now))) in
-    let r = free-pays 4 (k .i) m _ _ _ _ _ _ (d .before .free-at .ensures) (d .free-at2 .ensures) (c .free .ensures .0) (c .free .ensures .1) in
+    let r = known-pays 4 (k .i) m _ _ _ _ _ _ (d .before .free-at .ensures) (d .free-at2 .ensures) (bit (bits 16 (s .args .word))) _ (c .before .word-bit .ensures) (c .known .ensures .0) (c .known .ensures .1) in
     (search needs, fill-both 0 4 (k .i) _ (k .out) (k .inv .1) _ _ (search needs) (r .0) (r .1))
 
 returns : tie.Need-returns Inv-loop μ-loop
@@ -78,8 +83,8 @@ returns c =
     let e : c .before .loop .i ≡ 4 = search needs in
     (rw e at (c .before .loop .inv .1)) .done
 
-pub free-free-spec : {M : Type 1} → statement M
-free-free-spec =
+pub free-known-spec : {M : Type 1} → statement M
+free-known-spec =
     tie.close
     (tie.spec
     Inv-loop
@@ -88,7 +93,8 @@ free-free-spec =
     free-at-requires
     add-free-at
     free-at-requires-2
-    free-requires
+    word-bit-requires
+    known-requires
     mul-out
     index-1-out
     index-2-out

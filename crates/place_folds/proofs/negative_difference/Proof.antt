@@ -1,8 +1,8 @@
--- `folds::negative_difference` meets its contract. Assumes nothing.
+-- `place_folds::negative_difference` meets its contract. Assumes nothing.
 use borrow.Author.Needs.{needs}
 use Rattle.folds.proofs.Shortfall.{short-fits, short-taken, short-left}
-use Rattle.folds.proofs.negative_difference.Statement.{statement}
-use Rattle.folds.proofs.negative_difference.Tie as tie
+use Rattle.place_folds.proofs.negative_difference.Statement.{statement}
+use Rattle.place_folds.proofs.negative_difference.Tie as tie
 
 cast-d : tie.Need-cast-d
 cast-d c = search needs
