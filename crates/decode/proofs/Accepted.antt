@@ -2,11 +2,11 @@
 use mathlib.Core.Path.{_≡_, refl, sym, ap, ap₂, _∙_, subst}
 use mathlib.Core.Bool.{Bool, true, false}
 use mathlib.Core.List.{List, [], _++_, append-nil}
-use Prim.Native.Nat.{ℕ, _*_, _/_, _%_, _≤_, _<_}
+use Prim.Native.Nat.{ℕ, zero, suc, _*_, _/_, _%_, _≤_, _<_}
 use native.Mathlib.Omega.{arith}
 use borrow.Author.Tests.{not-false, eqb-true, ltb-false}
 use lib.IntN.{ℤ}
-use lib.ListN.{length, drop, take, replicate}
+use lib.ListN.{length, getD, drop, take, replicate}
 use Rattle.base.specs.Bit.{bit}
 use Rattle.base.proofs.Bool.{or-eq-false}
 use Rattle.base.proofs.List.{tabulate-at}
@@ -31,12 +31,17 @@ use Rattle.run.specs.Run.{symbolBy, SymbolsBy}
 use Rattle.run.proofs.Symbols.{given-only}
 use Rattle.frame_run.specs.Run.{Ready, FrameRun}
 use Rattle.decode.specs.Jobs.{valueCheck, frameFollowChecks, frameFollow, frameDecodeChecks, decided, frameDecode}
-use Rattle.frame_run.proofs.Rows.{zeros-at}
 
 -- Values that pass: none is outside.
 inside-all : (values : List ℤ) → length values ≡ 256 → (valueCheck values) .holds ≡ false → firstOutside 127 values ≡ 256
 unfolding valueCheck
 inside-all values e h = omega (arith, ltb-false (firstOutside 127 values) (length values) h, outside-le 127 values)
+
+-- A table of zeros.
+zeros-at : (n j : ℕ) → _≡_ {A = ℕ} (getD (replicate n 0) j 0) 0
+zeros-at zero j = refl
+zeros-at (suc n) zero = refl
+zeros-at (suc n) (suc j) = zeros-at n j
 
 -- Rows of zeros have no bit set.
 no-bits : (i : ℕ) → i < 256 → bit (rowsBits (replicate 16 0)) i ≡ false

@@ -81,9 +81,9 @@ accepted-job k values symbols out a m h found last f l =
 
 -- So does a run with nothing free and these symbols given.
 pub run-job : (k : ℕ) (values : List ℤ) (symbols : ℕ) (out : List ℤ) → isAccepted (settle (kernelFollowChecks k values (length out)) done) ≡ true
-    → (x : ℕ) (found : List ℤ) (paid : List ℕ) → KernelRun k values 0 symbols 0 x found paid → (last : List ℤ) → last ≡ paste out 0 found 16
+    → (x : ℕ) (found : List ℤ) → KernelRun k values 0 symbols x found → (last : List ℤ) → last ≡ paste out 0 found 16
     → kernelFollow k values symbols out ≡ (done, last)
-run-job k values symbols out a x found paid r last l =
+run-job k values symbols out a x found r last l =
     let C = kernelCode k in
     let u = bits 16 symbols in
     let same : bits 16 x ≡ u = given-only C (channel values) (bit (bits 16 0)) (bits 16 x) u 16 (length-bits 16 x) (length-bits 16 symbols) (λ i _. zero-at 16 i) (r .symbols-by) in

@@ -49,7 +49,7 @@ pub fn kernel_follow(kernel: u8, values: &[i32], symbols: u16, scores: &mut [i32
     }
     let shapes = step::shapes_of(kernel as usize);
     let tables = step::tables_of(kernel as usize);
-    let found = run::kernel_run(kernel as usize, &shapes, &tables, values, 0, symbols, 0);
+    let found = run::kernel_run(kernel as usize, &shapes, &tables, values, 0, symbols);
     let stored = found.scores;
     store_scores(stored, scores);
     Answer::Done

@@ -1,4 +1,4 @@
--- A frame's scores and penalties in a row, by the inner kernel over the outer scores. Assumes nothing.
+-- A frame's scores in a row, by the inner kernel over the outer scores. Assumes nothing.
 use mathlib.Core.Path.{_≡_, sym, ap, ap₂, _∙_}
 use mathlib.Core.Bool.{Bool, true, false}
 use mathlib.Core.List.{List, [], _∷_, _++_}
@@ -10,10 +10,7 @@ use Rattle.polar.specs.Code.{Costs, pay, channel, total, least, score}
 use Rattle.polar.specs.Kernel.{code}
 use Rattle.polar.specs.Stages.{rows, column, block, soft}
 use Rattle.polar.proofs.Minima.{sum-cong, minimum-cong}
-use Rattle.polar.proofs.Least.{least-cong}
-use Rattle.polar.proofs.Matrix.{kernel-onto}
-use Rattle.polar.proofs.Values.{value-pairs, penalty-values}
-use Rattle.polar.proofs.Frame.{frame-staged, frame-scores}
+use Rattle.polar.proofs.Frame.{frame-scores}
 use Rattle.kernel.specs.Kernels.{kernel, kernelCode}
 use Rattle.kernel.proofs.Solved.{invertible}
 use Rattle.kernel.proofs.Undoing.{code-word}
@@ -53,17 +50,9 @@ module _ (a b : ℕ) (ys : List ℤ) (costs : List (List (List ℕ)))
     soft-is : (j : ℕ) → j < 16 → (c : Bool) → channel found j c ≡ soft (code (kernel a)) (code (kernel b)) (channel ys) (rows 16 r u) j c
     soft-is j l c = ap (λ y. pay y c) (is j l)
 
-    -- Scores in the row,
+    -- Scores in the row.
     pub row-score : (p : List Bool) → length p < 16 → score (frameCode a b) (channel ys) (u ++ p) ≡ score (kernelCode a) (channel found) p
     row-score p lp =
         frame-scores (kernel a) (kernel b) (invertible a) (channel ys) r u p lu lr lp
         ∙ score-cong (code (kernel a)) (λ j l c. sym (soft-is j l c)) p
         ∙ code-score a (channel found) p lp
-
-    -- and penalties.
-    pub row-penalty : (p : List Bool) → length p ≤ 16 → least (frameCode a b) (channel ys) (u ++ p) ≡ least (frameCode a b) (channel ys) u + least (kernelCode a) (channel found) p
-    row-penalty p lp =
-        rw (frame-staged (kernel a) (kernel b)) (penalty-values (code (kernel a)) (code (kernel b)) (kernel-onto (kernel a) (invertible a)) (channel ys) r u p lu lr lp)
-        ∙ ap (λ x. least (frameCode a b) (channel ys) u + x)
-        (least-cong (code (kernel a)) (λ j l c. ap (λ z. pay z c) (value-pairs (code (kernel a)) (code (kernel b)) (channel ys) (rows 16 r u) j) ∙ sym (soft-is j l c)) p
-        ∙ code-least a (channel found) p lp)

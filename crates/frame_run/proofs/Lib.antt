@@ -3,3 +3,4 @@ pub mod Layered
 pub mod Prefixes
 pub mod Rows
 pub mod Premises
+pub mod Penalties

@@ -2,7 +2,7 @@
 use mathlib.Core.Path.{_≡_, ap, _∙_}
 use mathlib.Core.Bool.{Bool, _&&_}
 use mathlib.Core.List.{List, []}
-use Prim.Native.Nat.{ℕ, suc, _+_, _*_, _≤_, _<_}
+use Prim.Native.Nat.{ℕ, _+_, _*_, _≤_, _<_}
 use native.Mathlib.Nat.{le-trans}
 use native.Mathlib.Omega.{arith}
 use lib.IntN.{ℤ, pos, natAbs}
@@ -29,7 +29,7 @@ use Rattle.run.proofs.Phases.{score-cong}
 use Rattle.frame.specs.Frames.{frameCode}
 use Rattle.lane.specs.Lanes.{laneCosts, LanesWithin}
 use Rattle.lane_phases.specs.Rows.{column}
-use Rattle.frame_run.specs.Run.{NarrowScores, NarrowPenalties}
+use Rattle.frame_run.specs.Run.{NarrowScores}
 
 -- The word of sixteen symbols, by the rows of the table.
 pub word-of : (a x j : ℕ) → a < 3 → j < 16 → bit (bits 16 (rowSum (getD table a []) x)) j ≡ (code (kernel a)) .word (bits 16 x) j
@@ -56,14 +56,8 @@ outer-inside k ys inside costs agree planes r found is lf = outside-all (16 * 12
         rw (is j l, score-cong (kernelCode k) (λ t lt c. agree j t c l lt) (column planes r j))
         (score-bound (kernelCode k) (block 16 (channel ys) j) 127 (λ t c. channel-most 127 ys inside (16 * j + t) c) (column planes r j))
 
--- A row of the inner kernel over such values has scores of sixteen bits, and penalties where those before it are small.
-module _ (a : ℕ) (found : List ℤ) (small : firstOutside (16 * 127) found ≡ length found) (fr gi start x : ℕ) (sc : List ℤ) (pe : List ℕ)
-    (row : KernelRun a found fr gi start x sc pe) where
-  pub narrow-scores : NarrowScores sc
-  narrow-scores i l =
-      rw (row .scores-are, scores-at (kernelCode a) (channel found) (bits 16 x) i (pos 0) (omega (arith, length-bits 16 x)))
-      (omega (arith, score-bound (kernelCode a) (channel found) (16 * 127) (channel-most (16 * 127) found small) (take i (bits 16 x))))
-
-  pub narrow-penalties : start ≤ 256 * 127 → NarrowPenalties pe
-  narrow-penalties h i l =
-      omega (arith, row .penalties-are i l, least-bound (kernelCode a) (channel found) (16 * 127) (channel-most (16 * 127) found small) (take (suc i) (bits 16 x)))
+-- A row of the inner kernel over such values has scores of sixteen bits.
+pub narrow-scores : (a : ℕ) (found : List ℤ) → firstOutside (16 * 127) found ≡ length found → (fr gi x : ℕ) (sc : List ℤ) → KernelRun a found fr gi x sc → NarrowScores sc
+narrow-scores a found small fr gi x sc row i l =
+    rw (row .scores-are, scores-at (kernelCode a) (channel found) (bits 16 x) i (pos 0) (omega (arith, length-bits 16 x)))
+    (omega (arith, score-bound (kernelCode a) (channel found) (16 * 127) (channel-most (16 * 127) found small) (take i (bits 16 x))))

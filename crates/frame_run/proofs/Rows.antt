@@ -1,57 +1,43 @@
 -- The run of a frame, row after row: what holds after r of them. Assumes nothing.
-use mathlib.Core.Path.{_≡_, refl, sym, ap, ap₂, _∙_, subst, subst⁻¹}
+use mathlib.Core.Path.{_≡_, refl, sym, ap, ap₂, _∙_, subst⁻¹}
 use mathlib.Core.Bool.{Bool, false}
 use mathlib.Core.List.{List, [], _∷_, _++_}
-use Prim.Native.Nat.{ℕ, zero, suc, _+_, _-_, _*_, _≤_, _<_}
+use Prim.Native.Nat.{ℕ, suc, _+_, _-_, _*_, _/_, _%_, _≤_, _<_}
 use native.Mathlib.Numerals.{add-one}
 use native.Mathlib.Decide.{decLt}
 use native.Mathlib.Omega.{arith}
 use lib.IntN.{ℤ, pos}
-use lib.ListN.{length, getD, take, drop, set, replicate, length-set, length-append, List·getD-append}
-use lib.Seq.{paste, take-all, take-at, take-append-le, take-append-add, drop-drop, drop-append-add, getD-append-add, length-take-le, ext-getD, getD-set-other}
+use lib.ListN.{length, getD, take, drop, set, length-set, length-append, List·getD-append}
+use lib.Seq.{paste, take-all, take-at, take-append-le, take-append-add, drop-drop, drop-append-add, getD-append-add, length-take-le, getD-set-same, getD-set-other}
 use Rattle.base.specs.Bit.{bit, tabulate}
-use Rattle.base.proofs.List.{length-tabulate, tabulate-at, tabulate-cong, tabulate-append}
+use Rattle.base.proofs.List.{length-tabulate, tabulate-cong, tabulate-append}
 use Rattle.bits.specs.Packed.{bits}
 use Rattle.bits.proofs.Packed.{length-bits}
-use Rattle.polar.specs.Code.{Code, Costs, channel, least, score}
-use Rattle.polar.specs.Follow.{scores, penalties}
+use Rattle.polar.specs.Code.{Code, Costs, pay, channel, score}
+use Rattle.polar.specs.Follow.{scores}
 use Rattle.polar.specs.Kernel.{code}
 use Rattle.polar.specs.Stages.{rows, column, block}
-use Rattle.polar.proofs.Least.{channel-nil}
-use Rattle.polar.proofs.Frame.{frame-onto}
-use Rattle.polar.proofs.Follow.{length-scores, length-penalties}
+use Rattle.polar.proofs.Follow.{scores-at, length-scores}
 use Rattle.folds.specs.Rows.{rowOf}
 use Rattle.kernel.specs.Kernels.{kernel, kernelCode}
-use Rattle.kernel.proofs.Solved.{invertible}
-use Rattle.grid.specs.Grid.{rowsBits}
 use Rattle.frame.specs.Frames.{frameCode}
 use Rattle.run.specs.Run.{symbolBy, SymbolsBy, KernelRun}
 use Rattle.lane.specs.Lanes.{laneBit, laneCosts}
 use Rattle.lane_phases.specs.Rows.{column as laneColumn, HeldLanes, KeptLanes}
 use Rattle.lane_phases.proofs.Phases.{held-kept}
-use Rattle.frame_run.specs.Run.{front, FrameRun}
-use Rattle.frame_run.proofs.Prefixes.{length-front, front-next, front-all, column-next, planes-next}
-use Rattle.frame_run.proofs.Layered.{outer-is, row-score, row-penalty}
+use Rattle.frame_run.specs.Run.{front, paidAt}
+use Rattle.frame_run.proofs.Prefixes.{length-front, front-next, column-next, planes-next}
+use Rattle.frame_run.proofs.Layered.{outer-is, row-score}
 
--- Scores of a list with a part more, and penalties.
-module _ (C : Code) (m : Costs) (u p : List Bool) where
-  pub scores-more : scores C m (u ++ p) ≡ scores C m u ++ tabulate (length p) (λ i. score C m (u ++ take i p))
-  unfolding scores
-  scores-more =
-      ap (λ n. tabulate n (λ i. score C m (take i (u ++ p)))) (length-append u p)
-      ∙ tabulate-append (length u) (length p) (λ i. score C m (take i (u ++ p)))
-      ∙ ap₂ (λ (x y : List ℤ). x ++ y)
-      (tabulate-cong (length u) (λ i l. ap (score C m) (take-append-le i u p (omega arith))))
-      (tabulate-cong (length p) (λ i l. ap (score C m) (take-append-add u p i)))
-
-  pub penalties-more : penalties C m (u ++ p) ≡ penalties C m u ++ tabulate (length p) (λ i. least C m (u ++ take (suc i) p))
-  unfolding penalties
-  penalties-more =
-      ap (λ n. tabulate n (λ i. least C m (take (suc i) (u ++ p)))) (length-append u p)
-      ∙ tabulate-append (length u) (length p) (λ i. least C m (take (suc i) (u ++ p)))
-      ∙ ap₂ (λ (x y : List ℕ). x ++ y)
-      (tabulate-cong (length u) (λ i l. ap (least C m) (take-append-le (suc i) u p (omega arith))))
-      (tabulate-cong (length p) (λ i l. let e : suc (length u + i) ≡ length u + suc i = omega arith in ap (λ n. least C m (take n (u ++ p))) e ∙ ap (least C m) (take-append-add u p (suc i))))
+-- Scores of a list with a part more.
+pub scores-more : (C : Code) (m : Costs) (u p : List Bool) → scores C m (u ++ p) ≡ scores C m u ++ tabulate (length p) (λ i. score C m (u ++ take i p))
+unfolding scores
+scores-more C m u p =
+    ap (λ n. tabulate n (λ i. score C m (take i (u ++ p)))) (length-append u p)
+    ∙ tabulate-append (length u) (length p) (λ i. score C m (take i (u ++ p)))
+    ∙ ap₂ (λ (x y : List ℤ). x ++ y)
+    (tabulate-cong (length u) (λ i l. ap (score C m) (take-append-le i u p (omega arith))))
+    (tabulate-cong (length p) (λ i l. ap (score C m) (take-append-add u p i)))
 
 -- A part pasted after the first ones.
 pub paste-next : {X : Type 0} (done new old : List X) (n : ℕ) → length done ≡ n → length new ≡ 16
@@ -61,27 +47,27 @@ paste-next {X} done new old n e f =
     (ap₂ (λ (x y : List X). x ++ y) (take-at done (drop n old) n e) (take-all 16 new (omega arith)))
     (ap (λ k. drop (k + 16) (done ++ drop n old)) (sym e) ∙ drop-append-add done (drop n old) 16 ∙ drop-drop 16 n old)
 
-module _ (a b : ℕ) (ys : List ℤ) (costs : List (List (List ℕ))) (free given : ℕ → Bool) (oldScores : List ℤ) (oldPenalties : List ℕ) where
+module _ (a b : ℕ) (ys : List ℤ) (costs : List (List (List ℕ))) (free given : ℕ → Bool) (oldScores : List ℤ) where
   -- After r rows.
-  pub record AfterRows (r : ℕ) (symbols planes : List ℕ) (rows3 : List (List (List ℕ))) (penalty : ℕ) (newScores : List ℤ) (newPenalties : List ℕ) : Type 0 where
+  pub record AfterRows (r : ℕ) (symbols planes : List ℕ) (rows3 : List (List (List ℕ))) (paid : List (List ℕ)) (newScores : List ℤ) : Type 0 where
     pub within : r ≤ 16
     pub room : length symbols ≡ 16
     pub plane-room : length planes ≡ 16
     pub row-room : length rows3 ≡ 16
+    pub paid-room : length paid ≡ 16
     pub symbols-so : SymbolsBy (frameCode a b) (channel ys) free given (front r symbols)
     pub scores-so : newScores ≡ scores (frameCode a b) (channel ys) (front r symbols) ++ drop (r * 16) oldScores
-    pub penalties-so : newPenalties ≡ penalties (frameCode a b) (channel ys) (front r symbols) ++ drop (r * 16) oldPenalties
-    pub penalty-so : penalty ≡ least (frameCode a b) (channel ys) (front r symbols)
+    pub paid-so : (i : ℕ) → i < r * 16 → paidAt paid i ≡ pay (score (frameCode a b) (channel ys) (take i (front r symbols))) (bit (front r symbols) i)
     pub columns-so : (j : ℕ) → j < 16 → laneColumn planes r j ≡ column (code (kernel a)) (rows 16 r (front r symbols)) j
     pub kept-so : 0 < r → KeptLanes b costs planes r rows3
 
   module _ (agree : (j t : ℕ) (c : Bool) → j < 16 → t < 16 → laneCosts costs j t c ≡ channel ys (16 * j + t) c)
-      (r : ℕ) (symbols planes : List ℕ) (rows₀ : List (List (List ℕ))) (penalty : ℕ) (newScores : List ℤ) (newPenalties : List ℕ)
-      (g : AfterRows r symbols planes rows₀ penalty newScores newPenalties) (lr : r < 16)
+      (r : ℕ) (symbols planes : List ℕ) (rows₀ : List (List (List ℕ))) (paid : List (List ℕ)) (newScores : List ℤ)
+      (g : AfterRows r symbols planes rows₀ paid newScores) (lr : r < 16)
       (found : List ℤ) (is : (j : ℕ) → j < 16 → getD found j (pos 0) ≡ score (kernelCode b) (laneCosts costs j) (laneColumn planes r j))
       (fr gi x : ℕ) (sc : List ℤ) (pe : List ℕ)
       (free-is : (s : ℕ) → s < 16 → bit (bits 16 fr) s ≡ free (r * 16 + s)) (given-is : (s : ℕ) → s < 16 → bit (bits 16 gi) s ≡ given (r * 16 + s))
-      (row : KernelRun a found fr gi penalty x sc pe) (long : length pe ≡ 16) where
+      (row : KernelRun a found fr gi x sc) (pays : (s : ℕ) → s < 16 → getD pe s 0 ≡ pay (getD sc s (pos 0)) (bit (bits 16 x) s)) where
     abbrev pub u : List Bool
     u = front r symbols
 
@@ -102,9 +88,6 @@ module _ (a b : ℕ) (ys : List ℤ) (costs : List (List (List ℕ))) (free give
 
     in-row : (q : List Bool) → length q < 16 → score (frameCode a b) (channel ys) (u ++ q) ≡ score (kernelCode a) (channel found) q
     in-row q lq = row-score a b ys costs agree r lr u lu found soft-is q lq
-
-    paid-row : (q : List Bool) → length q ≤ 16 → least (frameCode a b) (channel ys) (u ++ q) ≡ penalty + least (kernelCode a) (channel found) q
-    paid-row q lq = row-penalty a b ys costs agree r lr (front r symbols) lu found soft-is q lq ∙ ap (λ z. z + least (kernelCode a) (channel found) q) (sym (g .penalty-so))
 
     -- The symbols with the row's are those by their sources.
     symbols-next : SymbolsBy (frameCode a b) (channel ys) free given (u ++ p)
@@ -131,13 +114,27 @@ module _ (a b : ℕ) (ys : List ℤ) (costs : List (List (List ℕ))) (free give
         ∙ ap (λ (l : List ℤ). scores (frameCode a b) (channel ys) u ++ l)
         (tabulate-cong (length p) (λ i l. in-row (take i p) (omega (arith, lp, length-take-le i p (omega arith)))) ∙ sym (row .scores-are))
 
-    penalties-next : penalties (frameCode a b) (channel ys) (u ++ p) ≡ penalties (frameCode a b) (channel ys) u ++ pe
-    penalties-next =
-        penalties-more (frameCode a b) (channel ys) u p
-        ∙ ap (λ (l : List ℕ). penalties (frameCode a b) (channel ys) u ++ l)
-        (sym (ext-getD 0 pe (tabulate (length p) (λ i. least (frameCode a b) (channel ys) (u ++ take (suc i) p))) (long ∙ sym (length-tabulate (length p) _ ∙ lp))
-        (λ i l. row .penalties-are i (omega (arith, long)) ∙ sym (paid-row (take (suc i) p) (omega (arith, lp, length-take-le (suc i) p (omega (arith, lp, long)))))
-        ∙ sym (tabulate-at (length p) _ i 0 (omega (arith, lp, long))))))
+    -- What the phases with the row's pay.
+    paid-next : (i : ℕ) → i < r * 16 + 16 → paidAt (set paid r pe) i ≡ pay (score (frameCode a b) (channel ys) (take i (u ++ p))) (bit (u ++ p) i)
+    paid-next i l = go (decLt i (r * 16))
+      where
+        go : Dec (i < r * 16) → paidAt (set paid r pe) i ≡ pay (score (frameCode a b) (channel ys) (take i (u ++ p))) (bit (u ++ p) i)
+        go (yes h) =
+            ap (λ (l : List ℕ). getD l (i % 16) 0) (getD-set-other paid r (i / 16) pe [] (λ e. omega arith))
+            ∙ g .paid-so i h
+            ∙ ap₂ (λ v c. pay (score (frameCode a b) (channel ys) v) c) (sym (take-append-le i u p (omega (arith, lu)))) (sym (List·getD-append u p false i (omega (arith, lu))))
+        go (no h) =
+            let s : ℕ = i - r * 16 in
+            let ls : s < 16 = omega arith in
+            let e : i ≡ length u + s = omega (arith, lu) in
+            let q : i / 16 ≡ r = omega arith in
+            let t : i % 16 ≡ s = omega arith in
+            let lq : length (take s p) < 16 = omega (arith, length-take-le s p (omega (arith, lp))) in
+            ap₂ (λ n k. getD (getD (set paid r pe) n []) k 0) q t
+            ∙ ap (λ (l : List ℕ). getD l s 0) (getD-set-same paid r pe [] (omega (arith, g .paid-room)))
+            ∙ pays s ls
+            ∙ ap (λ z. pay z (bit p s)) (ap (λ (l : List ℤ). getD l s (pos 0)) (row .scores-are) ∙ scores-at (kernelCode a) (channel found) p s (pos 0) (omega (arith, lp)) ∙ sym (in-row (take s p) lq))
+            ∙ ap₂ (λ v c. pay (score (frameCode a b) (channel ys) v) c) (sym (ap (λ n. take n (u ++ p)) e ∙ take-append-add u p s)) (sym (ap (bit (u ++ p)) e ∙ getD-append-add u p s false))
 
     -- One row more.
     module _ (w : ℕ) (word-is : (j : ℕ) → j < 16 → laneBit w j ≡ (code (kernel a)) .word p j)
@@ -151,24 +148,19 @@ module _ (a b : ℕ) (ys : List ℤ) (costs : List (List (List ℕ))) (free give
       col-next : (j : ℕ) → laneColumn (set planes r w) (r + 1) j ≡ laneColumn planes r j ++ (laneBit w j ∷ [])
       col-next j = planes-next planes r w j (omega (arith, g .plane-room))
 
-      pub row-next : AfterRows (r + 1) (set symbols r x) (set planes r w) rows3 (getD pe 15 0) (paste newScores (r * 16) sc 16) (paste newPenalties (r * 16) pe 16)
+      pub row-next : AfterRows (r + 1) (set symbols r x) (set planes r w) rows3 (set paid r pe) (paste newScores (r * 16) sc 16)
       row-next = record {
         within = omega arith;
         room = length-set symbols r x ∙ g .room;
         plane-room = length-set planes r w ∙ g .plane-room;
         row-room = long3;
+        paid-room = length-set paid r pe ∙ g .paid-room;
         symbols-so = subst⁻¹ (SymbolsBy (frameCode a b) (channel ys) free given) next symbols-next;
         scores-so =
             ap (λ (l : List ℤ). paste l (r * 16) sc 16) (g .scores-so)
             ∙ paste-next (scores (frameCode a b) (channel ys) u) sc oldScores (r * 16) (length-scores (frameCode a b) (channel ys) u ∙ lu) (ap length (row .scores-are) ∙ length-scores (kernelCode a) (channel found) p ∙ lp)
             ∙ ap₂ (λ (l : List ℤ) n. l ++ drop n oldScores) (sym scores-next ∙ ap (scores (frameCode a b) (channel ys)) (sym next)) (sym more);
-        penalties-so =
-            ap (λ (l : List ℕ). paste l (r * 16) pe 16) (g .penalties-so)
-            ∙ paste-next (penalties (frameCode a b) (channel ys) u) pe oldPenalties (r * 16) (length-penalties (frameCode a b) (channel ys) u ∙ lu) long
-            ∙ ap₂ (λ (l : List ℕ) n. l ++ drop n oldPenalties) (sym penalties-next ∙ ap (penalties (frameCode a b) (channel ys)) (sym next)) (sym more);
-        penalty-so =
-            row .penalties-are 15 (omega arith) ∙ sym (paid-row (take 16 p) (omega (arith, lp, length-take-le 16 p (omega (arith, lp)))))
-            ∙ ap (λ v. least (frameCode a b) (channel ys) (u ++ v)) (take-all 16 p (omega (arith, lp))) ∙ ap (least (frameCode a b) (channel ys)) (sym next);
+        paid-so = λ i l. paid-next i (omega arith) ∙ ap (λ v. pay (score (frameCode a b) (channel ys) (take i v)) (bit v i)) (sym next);
         columns-so = λ j l.
             col-next j ∙ ap₂ (λ t c. t ++ (c ∷ [])) (g .columns-so j l) (word-is j l)
             ∙ sym (column-next (code (kernel a)) r u p j lu lp)
@@ -177,45 +169,23 @@ module _ (a b : ℕ) (ys : List ℤ) (costs : List (List (List ℕ))) (free give
       }
 
       -- The same as the code has it.
-      pub row-turn : (newScores′ : List ℤ) → newScores′ ≡ paste newScores (r * 16) sc 16 → (newPenalties′ : List ℕ) → newPenalties′ ≡ paste newPenalties (r * 16) pe 16
-          → AfterRows (r + 1) (set symbols r x) (set planes r w) rows3 (getD pe 15 0) newScores′ newPenalties′
-      row-turn newScores′ e newPenalties′ f = rw (e, f) row-next
+      pub row-turn : (newScores′ : List ℤ) → newScores′ ≡ paste newScores (r * 16) sc 16 → AfterRows (r + 1) (set symbols r x) (set planes r w) rows3 (set paid r pe) newScores′
+      row-turn newScores′ e = rw e row-next
 
 -- Before the first row.
-pub no-row : (a b : ℕ) (ys : List ℤ) (costs : List (List (List ℕ))) (free given : ℕ → Bool) (oldScores : List ℤ) (oldPenalties : List ℕ)
-    (symbols planes : List ℕ) (rows3 : List (List (List ℕ))) → length symbols ≡ 16 → length planes ≡ 16 → length rows3 ≡ 16
-    → AfterRows a b ys costs free given oldScores oldPenalties 0 symbols planes rows3 0 oldScores oldPenalties
-unfolding front scores penalties rows tabulate
-no-row a b ys costs free given oldScores oldPenalties symbols planes rows3 ls lp lr = record {
+pub no-row : (a b : ℕ) (ys : List ℤ) (costs : List (List (List ℕ))) (free given : ℕ → Bool) (oldScores : List ℤ)
+    (symbols planes : List ℕ) (rows3 : List (List (List ℕ))) (paid : List (List ℕ)) → length symbols ≡ 16 → length planes ≡ 16 → length rows3 ≡ 16 → length paid ≡ 16
+    → AfterRows a b ys costs free given oldScores 0 symbols planes rows3 paid oldScores
+unfolding front scores rows tabulate
+no-row a b ys costs free given oldScores symbols planes rows3 paid ls lp lr la = record {
   within = omega arith;
   room = ls;
   plane-room = lp;
   row-room = lr;
+  paid-room = la;
   symbols-so = λ i l. absurd (omega arith);
   scores-so = refl;
-  penalties-so = refl;
-  penalty-so = sym (channel-nil (frameCode a b) (frame-onto (kernel a) (kernel b) (invertible a) (invertible b)) ys);
+  paid-so = λ i l. absurd (omega arith);
   columns-so = λ j l. refl;
   kept-so = λ l. absurd (omega arith);
 }
-
--- After the last row.
-pub all-rows : (a b : ℕ) (ys : List ℤ) (costs : List (List (List ℕ))) (free given : List ℕ) (oldScores : List ℤ) (oldPenalties : List ℕ)
-    (r : ℕ) (symbols planes : List ℕ) (rows3 : List (List (List ℕ))) (penalty : ℕ) (newScores : List ℤ) (newPenalties : List ℕ) → r ≡ 16
-    → AfterRows a b ys costs (bit (rowsBits free)) (bit (rowsBits given)) oldScores oldPenalties r symbols planes rows3 penalty newScores newPenalties
-    → FrameRun a b ys free given symbols newScores oldScores newPenalties oldPenalties
-all-rows a b ys costs free given oldScores oldPenalties r symbols planes rows3 penalty newScores newPenalties e g =
-    let C = frameCode a b in
-    let m = channel ys in
-    let all : front r symbols ≡ rowsBits symbols = ap (λ n. front n symbols) e ∙ front-all symbols in
-    record {
-      symbols-by = subst (SymbolsBy C m (bit (rowsBits free)) (bit (rowsBits given))) all (g .symbols-so);
-      scores-are = g .scores-so ∙ ap₂ (λ u n. scores C m u ++ drop (n * 16) oldScores) all e;
-      penalties-are = g .penalties-so ∙ ap₂ (λ u n. penalties C m u ++ drop (n * 16) oldPenalties) all e;
-    }
-
--- A table of zeros.
-pub zeros-at : (n j : ℕ) → _≡_ {A = ℕ} (getD (replicate n 0) j 0) 0
-zeros-at zero j = refl
-zeros-at (suc n) zero = refl
-zeros-at (suc n) (suc j) = zeros-at n j

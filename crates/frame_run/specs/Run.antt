@@ -2,7 +2,7 @@
 use mathlib.Core.Path.{_≡_}
 use mathlib.Core.Bool.{Bool}
 use mathlib.Core.List.{List, [], _++_}
-use Prim.Native.Nat.{ℕ, zero, suc, _≤_, _<_}
+use Prim.Native.Nat.{ℕ, zero, suc, _/_, _%_, _≤_, _<_}
 use lib.IntN.{ℤ, pos, natAbs}
 use lib.ListN.{length, getD, drop}
 use Rattle.base.specs.Bit.{bit}
@@ -32,9 +32,9 @@ pub record Ready (a b : ℕ) (values : List ℤ) (scoreRoom penaltyRoom : ℕ) :
 abbrev pub NarrowScores : List ℤ → Type 0
 NarrowScores found = (i : ℕ) → i < 16 → natAbs (getD found i (pos 0)) ≤ 32767
 
--- Sixteen penalties that fit a u16.
-abbrev pub NarrowPenalties : List ℕ → Type 0
-NarrowPenalties found = (i : ℕ) → i < 16 → getD found i 0 ≤ 65535
+-- What phase i pays, by rows of sixteen phases.
+abbrev pub paidAt : List (List ℕ) → ℕ → ℕ
+paidAt paid i = getD (getD paid (i / 16) []) (i % 16) 0
 
 -- What the run of a frame hands out over channel values: symbols by their sources, their scores and their penalties, before what
 -- the buffers held past these.

@@ -1,16 +1,17 @@
 // The run of a frame: row after row, sixteen outer kernels and the inner one over their scores.
 ghost use mathlib.Core.Path.{_≡_};
 ghost use mathlib.Core.Bool.{Bool};
-ghost use Prim.Native.Nat.{ℕ, _+_, _*_, _≤_, _<_};
+ghost use mathlib.Core.List.{_++_};
+ghost use Prim.Native.Nat.{ℕ, suc, _+_, _*_, _≤_, _<_};
 ghost use lib.IntN.{pos};
-ghost use lib.ListN.{length, getD};
+ghost use lib.ListN.{length, getD, drop};
 ghost use lib.Seq.{paste};
-ghost use Rattle.polar.specs.Code.{channel};
+ghost use Rattle.base.specs.Bit.{tabulate};
+ghost use Rattle.polar.specs.Code.{channel, sum};
 ghost use Rattle.folds.specs.Range.{firstOutside};
 ghost use Rattle.folds.specs.Rows.{cell};
 ghost use Rattle.lane.specs.Lanes.{laneCosts, LanesWithin};
-ghost use Rattle.frame_run.specs.Run.{Ready, NarrowScores, NarrowPenalties, FrameRun};
-use run::Run;
+ghost use Rattle.frame_run.specs.Run.{Ready, NarrowScores, paidAt, FrameRun};
 
 // The values of outer kernel j.
 pub fn block_values(values: &[i8], j: usize) -> [i32; 16]
@@ -68,32 +69,38 @@ fn store_narrow_scores(found: [i32; 16], at: usize, out: &mut [i16])
     }
 }
 
-// Writes sixteen penalties, which fit sixteen bits, from a place on.
-fn store_narrow_penalties(found: [u32; 16], at: usize, out: &mut [u16])
-    requires { ⌜ (at + 16 ≤ length (now out)) × NarrowPenalties found ⌝ }
-    ensures { λ _. ⌜ now (out .exit) ≡ paste (now (out .entry)) at found 16 ⌝ }
+// Adds up what the phases of a row pay, counted on from start, writes each sum from a place on, and hands back the last one.
+fn add_row(paid: &[u32; 16], start: u32, at: usize, out: &mut [u16]) -> u32
+    requires { ⌜ (at + 16 ≤ length (now out)) × ((n : ℕ) → n ≤ 16 → start + sum n (λ j. getD (now paid) j 0) ≤ 65535) ⌝ }
+    ensures sums { λ _. ⌜ now (out .exit) ≡ paste (now (out .entry)) at (tabulate 16 (λ i. start + sum (suc i) (λ j. getD (now (paid .entry)) j 0))) 16 ⌝ }
+    ensures last { λ r. ⌜ r ≡ start + sum 16 (λ j. getD (now (paid .entry)) j 0) ⌝ }
 {
+    let mut penalty = start;
     let mut i: usize = 0;
     while i < 16 {
-        out[at + i] = found[i] as u16;
+        penalty += paid[i];
+        out[at + i] = penalty as u16;
         i += 1;
+    }
+    penalty
+}
+
+// Writes the penalty of each phase: what all phases up to it pay, added up row by row.
+fn add_up(paid: &[[u32; 16]; 16], out: &mut [u16])
+    requires { ⌜ (256 ≤ length (now out)) × ((n : ℕ) → n ≤ 256 → sum n (paidAt (now paid)) ≤ 65535) ⌝ }
+    ensures { λ _. ⌜ now (out .exit) ≡ tabulate 256 (λ i. sum (suc i) (paidAt (now (paid .entry)))) ++ drop 256 (now (out .entry)) ⌝ }
+{
+    let mut penalty: u32 = 0;
+    let mut r: usize = 0;
+    while r < 16 {
+        penalty = add_row(&paid[r], penalty, r * 16, out);
+        r += 1;
     }
 }
 
-// Writes the scores and penalties of a kernel's run from a place on.
-fn store_run(found: Run, at: usize, scores: &mut [i16], penalties: &mut [u16])
-    requires { ⌜ (at + 16 ≤ length (now scores)) × (at + 16 ≤ length (now penalties)) ⌝ }
-    requires { ⌜ NarrowScores (found .scores) × NarrowPenalties (found .penalties) ⌝ }
-    ensures { λ _. ⌜ (now (scores .exit) ≡ paste (now (scores .entry)) at (found .scores) 16) × (now (penalties .exit) ≡ paste (now (penalties .entry)) at (found .penalties) 16) ⌝ }
-{
-    let taken = found.scores;
-    store_narrow_scores(taken, at, scores);
-    let paid = found.penalties;
-    store_narrow_penalties(paid, at, penalties);
-}
-
 // The run of a frame: at each row the outer kernels' scores are the inner kernel's values, and the word of its symbols goes
-// back to them. A symbol is the sign of its score where it is free, else the one that is given.
+// back to them. A symbol is the sign of its score where it is free, else the one that is given. What the phases pay is added up
+// after the last row: kept in a table until then, it is made in vectors.
 pub fn frame_run(
     inner: usize,
     outer: usize,
@@ -115,7 +122,7 @@ pub fn frame_run(
     let mut symbols = [0u16; 16];
     let mut planes = [0u16; 16];
     let mut rows = [[[0u16; 16]; 2]; 16];
-    let mut penalty: u32 = 0;
+    let mut paid = [[0u32; 16]; 16];
     let mut r: usize = 0;
     while r < 16 {
         let shape = outer_shapes[r];
@@ -130,12 +137,15 @@ pub fn frame_run(
             &planes,
             &mut rows,
         );
-        let row = hadamard_run::hadamard_run(inner, &found, free[r], given[r], penalty);
-        store_run(row, r * 16, scores, penalties);
-        penalty = row.penalties[15];
+        let row = hadamard_run::hadamard_run(inner, &found, free[r], given[r]);
+        let taken = row.scores;
+        store_narrow_scores(taken, r * 16, scores);
+        let pays = row.payments;
+        paid[r] = pays;
         symbols[r] = row.symbols;
         planes[r] = kernel::row_sum(matrix, row.symbols);
         r += 1;
     }
+    add_up(&paid, penalties);
     symbols
 }

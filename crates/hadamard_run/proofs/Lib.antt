@@ -1,2 +1,2 @@
-pub mod Counted
+pub mod Packing
 pub mod Whole

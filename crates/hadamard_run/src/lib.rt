@@ -1,19 +1,17 @@
-// One run of a kernel straight through its phases: by the kernel's number, and as frames take it, with packed symbols and
-// penalties.
+// One run of a kernel straight through its phases: by the kernel's number, and as frames take it, with packed symbols and what
+// each phase pays.
 ghost use mathlib.Core.Path.{_≡_};
-ghost use Prim.Native.Nat.{ℕ, suc, _+_, _≤_, _<_};
+ghost use Prim.Native.Nat.{ℕ, _<_};
 ghost use lib.IntN.{pos};
 ghost use lib.ListN.{length, getD};
 ghost use Rattle.base.specs.Bit.{bit, tabulate};
 ghost use Rattle.bits.specs.Packed.{bits};
-ghost use Rattle.polar.specs.Code.{pay, channel, sum, score};
+ghost use Rattle.polar.specs.Code.{pay, channel, score};
 ghost use Rattle.folds.specs.Range.{valueLimit, firstOutside};
 ghost use Rattle.kernel.specs.Kernels.{kernelCode};
-ghost use Rattle.values.specs.Value.{Small};
 ghost use Rattle.run.specs.Run.{KernelRun};
 ghost use Rattle.quarters.specs.Part.{Follows};
 use quarters::Straight;
-use run::Run;
 
 // A kernel's sixteen phases.
 pub fn straight(kernel: usize, values: &[i32], free: u16, given: u16) -> Straight
@@ -42,34 +40,39 @@ fn packed(symbols: &[bool; 16]) -> u16
     out
 }
 
-// What is paid up to each phase, counted on from start.
-fn penalties(scores: &[i32; 16], symbols: &[bool; 16], start: u32) -> [u32; 16]
-    requires { ⌜ Small 16777216 16 (now scores) × (start ≤ 16777216) ⌝ }
-    ensures { λ r. ⌜ ((s : ℕ) → s < 16 → getD r s 0 ≡ start + sum (suc s) (λ i. pay (getD (now (scores .entry)) i (pos 0)) (bit (now (symbols .entry)) i))) ⌝ }
+// What each score pays for its symbol.
+fn payments(scores: &[i32; 16], symbols: &[bool; 16]) -> [u32; 16]
+    ensures { λ r. ⌜ ((s : ℕ) → s < 16 → getD r s 0 ≡ pay (getD (now (scores .entry)) s (pos 0)) (bit (now (symbols .entry)) s)) ⌝ }
 {
     let mut out = [0u32; 16];
-    let mut penalty = start;
     let mut s: usize = 0;
     while s < 16 {
-        penalty += run::paid(scores[s], symbols[s]);
-        out[s] = penalty;
+        out[s] = run::paid(scores[s], symbols[s]);
         s += 1;
     }
     out
 }
 
-// The run of a kernel over sixteen channel values: symbols, scores, and penalties counted on from start.
-pub fn hadamard_run(kernel: usize, values: &[i32], free: u16, given: u16, start: u32) -> Run
-    requires { ⌜ (kernel < 3) × (start ≤ 16777216) × (length (now values) ≡ 16) × (firstOutside valueLimit (now values) ≡ 16) ⌝ }
-    ensures { λ r. ⌜ KernelRun kernel (now (values .entry)) free given start (r .symbols) (r .scores) (r .penalties) ⌝ }
+// The symbols and scores of a run, and what each phase pays.
+pub struct PaidRun {
+    pub symbols: u16,
+    pub scores: [i32; 16],
+    pub payments: [u32; 16],
+}
+
+// The run of a kernel over sixteen channel values.
+pub fn hadamard_run(kernel: usize, values: &[i32], free: u16, given: u16) -> PaidRun
+    requires { ⌜ (kernel < 3) × (length (now values) ≡ 16) × (firstOutside valueLimit (now values) ≡ 16) ⌝ }
+    ensures run { λ r. ⌜ KernelRun kernel (now (values .entry)) free given (r .symbols) (r .scores) ⌝ }
+    ensures paid { λ r. ⌜ ((s : ℕ) → s < 16 → getD (r .payments) s 0 ≡ pay (getD (r .scores) s (pos 0)) (bit (bits 16 (r .symbols)) s)) ⌝ }
 {
     let found = straight(kernel, values, free, given);
     let scores = found.scores;
     let symbols = found.symbols;
-    let counted = penalties(&scores, &symbols, start);
-    Run {
+    let paid = payments(&scores, &symbols);
+    PaidRun {
         symbols: packed(&symbols),
         scores,
-        penalties: counted,
+        payments: paid,
     }
 }

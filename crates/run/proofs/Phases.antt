@@ -2,23 +2,21 @@
 use mathlib.Core.Path.{_≡_, refl, sym, ap, ap₂, _∙_, subst⁻¹}
 use mathlib.Core.Bool.{Bool, true, false}
 use mathlib.Core.List.{List, [], _∷_, _++_}
-use Prim.Native.Nat.{ℕ, suc, _+_, _*_, _≤_, _<_}
+use Prim.Native.Nat.{ℕ, suc, _+_, _≤_, _<_}
 use native.Mathlib.Numerals.{add-one}
 use native.Mathlib.Decide.{decLt}
 use native.Mathlib.Omega.{arith}
 use lib.IntN.{ℤ, pos, negℤ, _-ℤ_}
 use lib.ListN.{length, getD, take, set, length-set}
-use lib.Seq.{take-suc, length-take-le, take-set-le, getD-set-same, getD-set-other, ext-getD}
+use lib.Seq.{take-suc, take-set-le, getD-set-same, getD-set-other, ext-getD}
 use Rattle.base.specs.Bit.{bit}
 use Rattle.base.proofs.List.{each-next}
 use Rattle.bits.specs.Packed.{bits}
 use Rattle.bits.proofs.Packed.{length-bits}
-use Rattle.polar.specs.Code.{Code, Costs, pay, channel, least, score}
+use Rattle.polar.specs.Code.{Code, Costs, channel, score}
 use Rattle.polar.specs.Follow.{scores}
-use Rattle.polar.proofs.Least.{least-bound, least-cong}
+use Rattle.polar.proofs.Least.{least-cong}
 use Rattle.polar.proofs.Follow.{scores-at, length-scores}
-use Rattle.polar.proofs.Values.{penalty-next}
-use Rattle.folds.specs.Range.{valueLimit}
 use Rattle.folds.specs.Rows.{rowOf}
 use Rattle.kernel.specs.Kernels.{kernelCode}
 use Rattle.windows.specs.Paths.{Kept, Held}
@@ -41,22 +39,18 @@ pub take-with : (p : List Bool) (s i : ℕ) (b : Bool) → i ≤ s → take i (w
 take-with p s i true l = take-set-le i p s true l
 take-with p s i false l = refl
 
-module _ (k : ℕ) (m : Costs) (free given : ℕ → Bool) (start : ℕ) where
+module _ (k : ℕ) (m : Costs) (free given : ℕ → Bool) where
   -- After s phases: the symbols so far are the first s bits of p, and the others are 0.
-  pub record AfterPhases (s : ℕ) (p : List Bool) (newScores : List ℤ) (newPenalties : List ℕ) (rows : List (List ℤ)) (own : Bool) (penalty : ℕ) : Type 0 where
+  pub record AfterPhases (s : ℕ) (p : List Bool) (newScores : List ℤ) (rows : List (List ℤ)) (own : Bool) : Type 0 where
     pub within : s ≤ 16
     pub wide : length p ≡ 16
     pub score-room : length newScores ≡ 16
-    pub penalty-room : length newPenalties ≡ 16
     pub scores-so : (i : ℕ) → i < s → getD newScores i (pos 0) ≡ score (kernelCode k) m (take i p)
-    pub penalties-so : (i : ℕ) → i < s → getD newPenalties i 0 ≡ start + least (kernelCode k) m (take (suc i) p)
     pub symbols-so : (i : ℕ) → i < s → bit p i ≡ symbolBy (free i) (given i) (score (kernelCode k) m (take i p))
     pub later : (i : ℕ) → s ≤ i → bit p i ≡ false
-    pub penalty-so : penalty ≡ start + least (kernelCode k) m (take s p)
     pub kept-so : 0 < s → Kept k m (take s p) (rowOf rows own)
 
-  module _ (s : ℕ) (p : List Bool) (newScores : List ℤ) (newPenalties : List ℕ) (rows₀ : List (List ℤ)) (own₀ : Bool) (penalty : ℕ)
-      (g : AfterPhases s p newScores newPenalties rows₀ own₀ penalty) (ls : s < 16) (d : ℤ) (is-d : d ≡ score (kernelCode k) m (take s p))
+  module _ (s : ℕ) (p : List Bool) (newScores : List ℤ) (rows₀ : List (List ℤ)) (own₀ : Bool) (g : AfterPhases s p newScores rows₀ own₀) (ls : s < 16) (d : ℤ) (is-d : d ≡ score (kernelCode k) m (take s p))
       (own : Bool) (is-own : own ≡ symbolBy (free s) (given s) d) (rows : List (List ℤ)) (h : Held k m (take s p) rows) (q : List Bool) (is-q : q ≡ withBit p s own) where
     same-front : (i : ℕ) → i ≤ s → take i q ≡ take i p
     same-front i l = ap (take i) is-q ∙ take-with p s i own l
@@ -69,12 +63,6 @@ module _ (k : ℕ) (m : Costs) (free given : ℕ → Bool) (start : ℕ) where
         take-suc q s false (omega (arith, ap length is-q, with-length p s own, g .wide))
         ∙ ap₂ (λ u b. u ++ (b ∷ [])) (same-front s (omega arith)) bit-here
 
-    next-least : least (kernelCode k) m (take (suc s) q) ≡ least (kernelCode k) m (take s p) + pay d own
-    next-least =
-        ap (least (kernelCode k) m) front-next
-        ∙ penalty-next (kernelCode k) m (take s p) own (omega (arith, length-take-le s p (omega (arith, g .wide))))
-        ∙ ap (λ z. least (kernelCode k) m (take s p) + pay z own) (sym is-d)
-
     symbols-next : (i : ℕ) → Dec (i < s) → i < s + 1 → bit q i ≡ symbolBy (free i) (given i) (score (kernelCode k) m (take i q))
     symbols-next i (yes l) _ =
         ap (λ u. bit u i) is-q ∙ with-other p s i own (λ e. omega arith) ∙ g .symbols-so i l
@@ -86,46 +74,33 @@ module _ (k : ℕ) (m : Costs) (free given : ℕ → Bool) (start : ℕ) where
         ∙ ap (λ u. symbolBy (free s) (given s) (score (kernelCode k) m u)) (sym (same-front s (omega arith))))
 
     -- One phase more.
-    pub phase-next : AfterPhases (s + 1) q (set newScores s d) (set newPenalties s (penalty + pay d own)) rows own (penalty + pay d own)
+    pub phase-next : AfterPhases (s + 1) q (set newScores s d) rows own
     phase-next = record {
       within = omega arith;
       wide = ap length is-q ∙ with-length p s own ∙ g .wide;
       score-room = length-set newScores s d ∙ g .score-room;
-      penalty-room = length-set newPenalties s _ ∙ g .penalty-room;
       scores-so = each-next (λ i z. z ≡ score (kernelCode k) m (take i q)) newScores s (pos 0) d (omega (arith, g .score-room))
           (λ i l. g .scores-so i l ∙ ap (score (kernelCode k) m) (sym (same-front i (omega arith))))
           (is-d ∙ ap (score (kernelCode k) m) (sym (same-front s (omega arith))));
-      penalties-so = each-next (λ i z. z ≡ start + least (kernelCode k) m (take (suc i) q)) newPenalties s 0 _ (omega (arith, g .penalty-room))
-          (λ i l. g .penalties-so i l ∙ ap (λ u. start + least (kernelCode k) m u) (sym (same-front (suc i) (omega arith))))
-          (omega (arith, g .penalty-so, next-least));
       symbols-so = λ i l. symbols-next i (decLt i s) l;
       later = λ i l. ap (λ u. bit u i) is-q ∙ with-other p s i own (λ e. omega arith) ∙ g .later i (omega arith);
-      penalty-so = omega (arith, g .penalty-so, next-least, ap (λ n. least (kernelCode k) m (take n q)) (add-one s));
       kept-so = λ _. subst⁻¹ (λ u. Kept k m u (rowOf rows own)) (ap (λ n. take n q) (add-one s) ∙ front-next) (h own);
     }
 
     -- The same as the code has it.
-    pub phase-turn : (z : ℤ) → z ≡ d → (x : ℕ) → x ≡ pay d own
-        → AfterPhases (s + 1) q (set newScores s z) (set newPenalties s (penalty + x)) rows own (penalty + x)
-    phase-turn z ez x ex = rw (ez, ex) phase-next
-
-    -- No sum of payments exceeds what all words pay at most.
-    pub next-bound : ((j : ℕ) (b : Bool) → m j b ≤ valueLimit) → penalty + pay d own ≤ start + 16 * valueLimit
-    next-bound most = omega (arith, g .penalty-so, next-least, least-bound (kernelCode k) m valueLimit most (take (suc s) q))
+    pub phase-turn : (z : ℤ) → z ≡ d → AfterPhases (s + 1) q (set newScores s z) rows own
+    phase-turn z ez = rw ez phase-next
 
   -- Before the first phase.
-  pub no-phase : least (kernelCode k) m [] ≡ 0 → (p : List Bool) → length p ≡ 16 → ((i : ℕ) → bit p i ≡ false) → (newScores : List ℤ) (newPenalties : List ℕ) (rows : List (List ℤ)) (own : Bool)
-      → length newScores ≡ 16 → length newPenalties ≡ 16 → AfterPhases 0 p newScores newPenalties rows own start
-  no-phase e p lp z newScores newPenalties rows own ls lt = record {
+  pub no-phase : (p : List Bool) → length p ≡ 16 → ((i : ℕ) → bit p i ≡ false) → (newScores : List ℤ) (rows : List (List ℤ)) (own : Bool)
+      → length newScores ≡ 16 → AfterPhases 0 p newScores rows own
+  no-phase p lp z newScores rows own ls = record {
     within = omega arith;
     wide = lp;
     score-room = ls;
-    penalty-room = lt;
     scores-so = λ i l. absurd (omega arith);
-    penalties-so = λ i l. absurd (omega arith);
     symbols-so = λ i l. absurd (omega arith);
     later = λ i _. z i;
-    penalty-so = omega (arith, e);
     kept-so = λ l. absurd (omega arith);
   }
 
@@ -135,11 +110,10 @@ unfolding score
 score-cong C h p = ap₂ (λ x y. negℤ (pos x) -ℤ negℤ (pos y)) (least-cong C h (p ++ (false ∷ []))) (least-cong C h (p ++ (true ∷ [])))
 
 -- After the last phase, over the costs of channel values.
-pub run-of : (k : ℕ) (values : List ℤ) (m : Costs) → ((j : ℕ) (b : Bool) → j < 16 → m j b ≡ channel values j b) → (free given start symbols : ℕ)
-    (newScores : List ℤ) (newPenalties : List ℕ) (rows : List (List ℤ)) (own : Bool) (penalty s : ℕ) → s ≡ 16
-    → AfterPhases k m (bit (bits 16 free)) (bit (bits 16 given)) start s (bits 16 symbols) newScores newPenalties rows own penalty
-    → KernelRun k values free given start symbols newScores newPenalties
-run-of k values m e free given start symbols newScores newPenalties rows own penalty s es g =
+pub run-of : (k : ℕ) (values : List ℤ) (m : Costs) → ((j : ℕ) (b : Bool) → j < 16 → m j b ≡ channel values j b) → (free given symbols : ℕ)
+    (newScores : List ℤ) (rows : List (List ℤ)) (own : Bool) (s : ℕ) → s ≡ 16 → AfterPhases k m (bit (bits 16 free)) (bit (bits 16 given)) s (bits 16 symbols) newScores rows own
+    → KernelRun k values free given symbols newScores
+run-of k values m e free given symbols newScores rows own s es g =
     let C = kernelCode k in
     let u = bits 16 symbols in
     let lu = length-bits 16 symbols in
@@ -148,5 +122,4 @@ run-of k values m e free given start symbols newScores newPenalties rows own pen
       symbols-by = λ i l. g .symbols-so i (omega arith) ∙ ap (symbolBy (bit (bits 16 free) i) (bit (bits 16 given) i)) (same (take i u));
       scores-are = ext-getD (pos 0) newScores (scores C (channel values) u) (g .score-room ∙ sym (length-scores C (channel values) u ∙ lu))
           (λ i l. g .scores-so i (omega (arith, g .score-room)) ∙ same (take i u) ∙ sym (scores-at C (channel values) u i (pos 0) (omega (arith, g .score-room))));
-      penalties-are = λ i l. g .penalties-so i (omega arith) ∙ ap (λ x. start + x) (least-cong C (λ i l b. e i b l) (take (suc i) u));
     }

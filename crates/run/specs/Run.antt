@@ -2,13 +2,13 @@
 use mathlib.Core.Path.{_≡_}
 use mathlib.Core.Bool.{Bool, true, false, not}
 use mathlib.Core.List.{List}
-use Prim.Native.Nat.{ℕ, suc, _+_, _<_}
+use Prim.Native.Nat.{ℕ, _<_}
 use lib.IntN.{ℤ}
-use lib.ListN.{getD, take, set, length}
+use lib.ListN.{take, set, length}
 use lib.Signed.{nonNeg}
 use Rattle.base.specs.Bit.{bit}
 use Rattle.bits.specs.Packed.{bits}
-use Rattle.polar.specs.Code.{Code, Costs, channel, least, score}
+use Rattle.polar.specs.Code.{Code, Costs, channel, score}
 use Rattle.polar.specs.Follow.{scores}
 use Rattle.kernel.specs.Kernels.{kernelCode}
 
@@ -24,9 +24,7 @@ symbolBy free given s = elim free [ true ↦ not (nonNeg s) | false ↦ given ]
 abbrev pub SymbolsBy : Code → Costs → (ℕ → Bool) → (ℕ → Bool) → List Bool → Type 0
 SymbolsBy C m free given u = (i : ℕ) → i < length u → bit u i ≡ symbolBy (free i) (given i) (score C m (take i u))
 
--- What a run of a kernel hands out over channel values: symbols by their sources, their scores, and their penalties counted on
--- from start.
-pub record KernelRun (k : ℕ) (values : List ℤ) (free given start symbols : ℕ) (newScores : List ℤ) (newPenalties : List ℕ) : Type 0 where
+-- What a run of a kernel hands out over channel values: symbols by their sources, and their scores.
+pub record KernelRun (k : ℕ) (values : List ℤ) (free given symbols : ℕ) (newScores : List ℤ) : Type 0 where
   pub symbols-by : SymbolsBy (kernelCode k) (channel values) (bit (bits 16 free)) (bit (bits 16 given)) (bits 16 symbols)
   pub scores-are : newScores ≡ scores (kernelCode k) (channel values) (bits 16 symbols)
-  pub penalties-are : (s : ℕ) → s < 16 → getD newPenalties s 0 ≡ start + least (kernelCode k) (channel values) (take (suc s) (bits 16 symbols))

@@ -42,15 +42,14 @@ pub fn symbol_of(free: u16, given: u16, i: usize, score: i32) -> bool
     }
 }
 
-// The symbols, scores and penalties of a run.
+// The symbols and scores of a run.
 pub struct Run {
     pub symbols: u16,
     pub scores: [i32; 16],
-    pub penalties: [u32; 16],
 }
 
-// A kernel's run over sixteen channel values: at each phase the two rows of best scores, their difference as the score, the
-// symbol by its source, and what it pays, counted on from start, which leaves room for sixteen payments.
+// A kernel's run over sixteen channel values: at each phase the two rows of best scores, their difference as the score, and the
+// symbol by its source.
 pub fn kernel_run(
     kernel: usize,
     shapes: &[[u8; 2]; 16],
@@ -58,36 +57,27 @@ pub fn kernel_run(
     values: &[i32],
     free: u16,
     given: u16,
-    start: u32,
 ) -> Run
-    requires { ⌜ (kernel < 3) × (start ≤ 16777216) ⌝ }
+    requires { ⌜ kernel < 3 ⌝ }
     requires { ⌜ (now shapes ≡ getD shapeTable kernel []) × (now tables ≡ getD pathTable kernel []) ⌝ }
     requires { ⌜ (length (now values) ≡ 16) × (firstOutside valueLimit (now values) ≡ 16) ⌝ }
-    ensures { λ r. ⌜ KernelRun kernel (now (values .entry)) free given start (r .symbols) (r .scores) (r .penalties) ⌝ }
+    ensures { λ r. ⌜ KernelRun kernel (now (values .entry)) free given (r .symbols) (r .scores) ⌝ }
 {
     let costs = folds::cost_rows(values);
     let mut symbols: u16 = 0;
     let mut scores = [0i32; 16];
-    let mut penalties = [0u32; 16];
     let mut rows = [[0i32; 16]; 2];
     let mut own = false;
-    let mut penalty = start;
     let mut s: usize = 0;
     while s < 16 {
         let shape = shapes[s];
         let next = step::step(kernel, s, shape, &tables[s], &costs, symbols, rows, own);
         let score = step::difference(&next, step::path_count(shape, s));
         own = symbol_of(free, given, s, score);
-        penalty += paid(score, own);
         scores[s] = score;
-        penalties[s] = penalty;
         symbols = with_bit(symbols, s, own);
         rows = next;
         s += 1;
     }
-    Run {
-        symbols,
-        scores,
-        penalties,
-    }
+    Run { symbols, scores }
 }

@@ -41,7 +41,7 @@ kernel-run-requires : tie.Need-kernel-run-requires
 kernel-run-requires c κs =
     let t = c .before .before in
     let k = passed (t .before .before) in
-    ((k .known, search needs), ((t .before .shapes-of .ensures, t .tables-of .ensures), (k .count, k .inside)))
+    (k .known, ((t .before .shapes-of .ensures, t .tables-of .ensures), (k .count, k .inside)))
 
 store-scores-requires : tie.Need-store-scores-requires
 store-scores-requires c κs = passed (c .before .before .before .before .before .before .before) .room-enough
@@ -54,7 +54,7 @@ returns-2 c =
     let r = c .before .before .before .before in
     let e = r .before .before .before .before .before in
     let a = e .before .before .before .args in
-    run-job (a .kernel) (a .values .now) (a .symbols) (a .scores .now) (pass e) _ _ _ (r .kernel-run .ensures) _ (c .before .store-scores .ensures)
+    run-job (a .kernel) (a .values .now) (a .symbols) (a .scores .now) (pass e) _ _ (r .kernel-run .ensures) _ (c .before .store-scores .ensures)
 
 pub kernel-follow-spec : {M : Type 1} → statement M
 kernel-follow-spec =

@@ -48,7 +48,7 @@ returns-2 c =
     let a = e .before .before .before .args in
     let h = r .straight in
     let long : length (h .result .scores) ≡ 16 = search needs in
-    run-job (a .kernel) (a .values .now) (a .symbols) (a .scores .now) (pass e) _ _ _ (given-run (a .kernel) (a .values .now) (a .symbols) (h .result .scores) (h .result .symbols) (h .ensures) long) _ (c .before .store-scores .ensures)
+    run-job (a .kernel) (a .values .now) (a .symbols) (a .scores .now) (pass e) _ _ (given-run (a .kernel) (a .values .now) (a .symbols) (h .result .scores) (h .result .symbols) (h .ensures) long) _ (c .before .store-scores .ensures)
 
 pub kernel-follow-hadamard-spec : {M : Type 1} → statement M
 kernel-follow-hadamard-spec =

@@ -1,5 +1,5 @@
--- `frame_run::frame_run` meets its contract: after r rows their symbols are those by their sources, and their scores and penalties
--- are written. Assumes nothing.
+-- `frame_run::frame_run` meets its contract: after r rows their symbols are those by their sources, their scores are written, and what
+-- they pay is held. Assumes nothing.
 use mathlib.Core.Path.{_≡_, refl, sym, ap, _∙_}
 use mathlib.Core.List.{List, []}
 use Prim.Native.Nat.{ℕ, _+_, _-_, _*_, _≤_, _<_}
@@ -20,19 +20,19 @@ use Rattle.windows.proofs.Stepping.{in-range}
 use Rattle.lane.specs.Lanes.{laneCosts}
 use Rattle.lane_phases.specs.Rows.{column}
 use Rattle.frame_run.specs.Run.{front}
-use Rattle.frame_run.proofs.Rows.{AfterRows, no-row, row-turn, all-rows}
-use Rattle.frame_run.proofs.Premises.{word-of, penalty-small, lanes-wider, outer-inside, narrow-scores, narrow-penalties}
+use Rattle.frame_run.proofs.Rows.{AfterRows, no-row, row-turn}
+use Rattle.frame_run.proofs.Premises.{word-of, lanes-wider, outer-inside, narrow-scores}
+use Rattle.frame_run.proofs.Penalties.{sums-small, all-rows}
 use borrow.Author.Needs.{needs}
 use Rattle.frame_run.proofs.frame_run.Statement.{statement}
 use Rattle.frame_run.proofs.frame_run.Tie as tie
 
 abbrev Inv-loop : tie.InvT-loop
-Inv-loop inner outer values scores₀ penalties₀ free given outer-shapes outer-paths matrix flags costs halves symbols₀ planes₀ rows₀ penalty₀ r₀ scores penalties symbols planes rows penalty r =
-    AfterRows inner outer values costs (bit (rowsBits free)) (bit (rowsBits given)) scores₀ penalties₀ r symbols planes rows penalty scores penalties
-    × (length scores ≡ length scores₀) × (length penalties ≡ length penalties₀)
+Inv-loop inner outer values scores₀ penalties free given outer-shapes outer-paths matrix flags costs halves symbols₀ planes₀ rows₀ paid₀ r₀ scores symbols planes rows paid r =
+    AfterRows inner outer values costs (bit (rowsBits free)) (bit (rowsBits given)) scores₀ r symbols planes rows paid scores × (length scores ≡ length scores₀)
 
 abbrev μ-loop : tie.MeasureT-loop
-μ-loop inner outer values scores₀ penalties₀ free given outer-shapes outer-paths matrix flags costs halves symbols₀ planes₀ rows₀ penalty₀ r₀ scores penalties symbols planes rows penalty r = 16 - r
+μ-loop inner outer values scores₀ penalties free given outer-shapes outer-paths matrix flags costs halves symbols₀ planes₀ rows₀ paid₀ r₀ scores symbols planes rows paid r = 16 - r
 
 shapes-of-requires : tie.Need-shapes-of-requires Inv-loop μ-loop
 shapes-of-requires c κs = (c .before) .pre .outer
@@ -58,7 +58,7 @@ free-eight-requires c κs = let m = c .before .outer-costs in lanes-wider 127 _ 
 loop-holds : tie.Need-loop-holds Inv-loop μ-loop
 loop-holds c =
     let a = c .before .before .before .before .before .before .before .before .args in
-    (no-row (a .inner) (a .outer) (a .values .now) _ _ _ (a .scores .now) (a .penalties .now) _ _ _ refl refl refl, refl, refl)
+    (no-row (a .inner) (a .outer) (a .values .now) _ _ _ (a .scores .now) _ _ _ _ refl refl refl refl, refl)
 
 mul-shape : tie.Need-mul-shape Inv-loop μ-loop
 mul-shape c = search needs
@@ -104,7 +104,7 @@ mul-hadamard-run-2 c = search needs
 array-read-hadamard-run-2 : tie.Need-array-read-hadamard-run-2 Inv-loop μ-loop
 array-read-hadamard-run-2 c = search needs
 
--- The inner kernel's values, the scores of the outer kernels, are small,
+-- The inner kernel's values, the scores of the outer kernels, are small.
 values-inside : (c : tie.After-step Inv-loop μ-loop) → firstOutside (16 * 127) (c .step .result) ≡ length (c .step .result)
 values-inside c =
     let q = c .before .before .before .before .before .before .before .before .before in
@@ -112,43 +112,28 @@ values-inside c =
     let m = q .before .before .before .outer-costs in
     outer-inside (z .args .outer) (z .args .values .now) (z .pre .inside ∙ sym (z .pre .count)) (m .result) (m .ensures .0) (q .loop .planes) (q .loop .r) (c .step .result) (c .step .ensures .1 .1) (search needs)
 
--- and so is the penalty of the rows so far.
-small-penalty : (c : tie.At-loop Inv-loop μ-loop) → c .loop .penalty ≤ 256 * 127
-small-penalty c =
-    let z = c .before .before .before .before .before .before .before .before .before in
-    omega (arith, c .loop .inv .0 .penalty-so, penalty-small (z .args .inner) (z .args .outer) (z .args .values .now) (z .pre .inside ∙ sym (z .pre .count)) (front (c .loop .r) (c .loop .symbols)))
-
 hadamard-run-requires : tie.Need-hadamard-run-requires Inv-loop μ-loop
 hadamard-run-requires c κs =
     let q = c .before .before .before .before .before .before .before .before .before .before in
     let f = c .before .step .result in
     let long : length f ≡ 16 = search needs in
-    (q .before .before .before .before .before .before .before .before .before .pre .inner, omega (arith, small-penalty q), long, outside-wider (16 * 127) valueLimit frame-inside f (values-inside (c .before)) ∙ long)
+    (q .before .before .before .before .before .before .before .before .before .pre .inner, long, outside-wider (16 * 127) valueLimit frame-inside f (values-inside (c .before)) ∙ long)
 
--- A row has sixteen penalties.
-penalties-long : (c : tie.After-hadamard-run Inv-loop μ-loop) → length (c .hadamard-run .result .penalties) ≡ 16
-penalties-long c = search needs
+mul-store-narrow-scores : tie.Need-mul-store-narrow-scores Inv-loop μ-loop
+mul-store-narrow-scores c = search needs
 
-mul-store-run : tie.Need-mul-store-run Inv-loop μ-loop
-mul-store-run c = search needs
-
-store-run-requires : tie.Need-store-run-requires Inv-loop μ-loop
-store-run-requires c κs =
+store-narrow-scores-requires : tie.Need-store-narrow-scores-requires Inv-loop μ-loop
+store-narrow-scores-requires c κs =
     let q = c .before .before .before .before .before .before .before .before .before .before .before .before .before in
     let z = q .before .before .before .before .before .before .before .before .before in
-    let t = c .before .before .before .before .before .before .before .before .before .before .before .before .loop-test .taken in
-    let row = c .before .before .hadamard-run in
     let f = c .before .before .before .before in
-    let found = f .step .result in (
-      (omega (arith, q .loop .inv .1, z .pre .score-room, t), omega (arith, q .loop .inv .2, z .pre .penalty-room, t)),
-      (
-        narrow-scores (z .args .inner) found (values-inside f) _ _ _ _ _ _ (row .ensures),
-        narrow-penalties (z .args .inner) found (values-inside f) _ _ _ _ _ _ (row .ensures) (omega (arith, small-penalty q)),
-      ),
-    )
+    (omega (arith, q .loop .inv .1, z .pre .score-room, c .before .before .before .before .before .before .before .before .before .before .before .before .loop-test .taken), narrow-scores (z .args .inner) (f .step .result) (values-inside f) _ _ _ _ (c .before .before .hadamard-run .ensures .0))
 
-element-copy-out-penalty : tie.Need-element-copy-out-penalty Inv-loop μ-loop
-element-copy-out-penalty c = search needs
+mul-paid : tie.Need-mul-paid Inv-loop μ-loop
+mul-paid c = search needs
+
+array-set-from-paid : tie.Need-array-set-from-paid Inv-loop μ-loop
+array-set-from-paid c = search needs
 
 mul-symbols : tie.Need-mul-symbols Inv-loop μ-loop
 mul-symbols c = search needs
@@ -160,8 +145,8 @@ row-sum-requires : tie.Need-row-sum-requires Inv-loop μ-loop
 row-sum-requires c κs = search needs
 
 -- The row that was run is one of the sixteen.
-row-is : (c : tie.After-row-sum Inv-loop μ-loop) → c .before .before .before .before .before .before .before .before .before .before .before .before .before .before .before .before .before .before .before .loop .r < 16
-row-is c = c .before .before .before .before .before .before .before .before .before .before .before .before .before .before .before .before .before .before .loop-test .taken
+row-is : (c : tie.After-row-sum Inv-loop μ-loop) → c .before .before .before .before .before .before .before .before .before .before .before .before .before .before .before .before .before .loop .r < 16
+row-is c = c .before .before .before .before .before .before .before .before .before .before .before .before .before .before .before .before .loop-test .taken
 
 mul-planes : tie.Need-mul-planes Inv-loop μ-loop
 mul-planes c = omega (arith, row-is c)
@@ -177,7 +162,7 @@ loop-less c = omega (arith, row-is c)
 
 loop-again : tie.Need-loop-again Inv-loop μ-loop
 loop-again c =
-    let f = c .before .before .before .before .before .before .before .before .before .before in
+    let f = c .before .before .before .before .before .before .before .before in
     let q = f .before .before .before .before .before .before .before .before .before in
     let z = q .before .before .before .before .before .before .before .before .before in
     let a = z .args in
@@ -185,21 +170,25 @@ loop-again c =
     let lr : l .r < 16 = row-is c in
     let m = q .before .before .before .outer-costs in
     let h = f .step in
-    let row = c .before .before .before .before .before .before .before .before .hadamard-run in
-    let stored = c .before .before .before .before .before .store-run in
-    let long = penalties-long (c .before .before .before .before .before .before .before .before) in
+    let row = c .before .before .before .before .before .before .hadamard-run in
     let at : (t : List ℕ) (s : ℕ) → s < 16 → bit (bits 16 (getD t (l .r) 0)) s ≡ bit (rowsBits t) (l .r * 16 + s) = λ t s ls.
     sym (ap (bit (rowsBits t)) (let e : l .r * 16 + s ≡ 16 * l .r + s = omega arith in e) ∙ rows-bits-at t (l .r) s lr ls) in (
-      row-turn (a .inner) (a .outer) (a .values .now) (m .result) _ _ (a .scores .now) (a .penalties .now) (m .ensures .0)
-          (l .r) (l .symbols) (l .planes) (l .rows) (l .penalty) (l .scores) (l .penalties) (l .inv .0) lr
+      row-turn (a .inner) (a .outer) (a .values .now) (m .result) _ _ (a .scores .now) (m .ensures .0)
+          (l .r) (l .symbols) (l .planes) (l .rows) (l .paid) (l .scores) (l .inv .0) lr
           (h .result) (h .ensures .1 .1)
-          (getD (a .t4) (l .r) 0) (getD (a .t5) (l .r) 0) (row .result .symbols) (row .result .scores) (row .result .penalties) (at (a .t4)) (at (a .t5)) (row .ensures) long
+          (getD (a .t4) (l .r) 0) (getD (a .t5) (l .r) 0) (row .result .symbols) (row .result .scores) (row .result .payments) (at (a .t4)) (at (a .t5)) (row .ensures .0) (row .ensures .1)
           (c .row-sum .result)
           (λ j lj. ap (λ v. bit (bits 16 v) j) (c .row-sum .ensures ∙ ap (λ t. rowSum t (row .result .symbols)) (q .before .before .before .before .before .kernel-rows .ensures)) ∙ word-of (a .inner) (row .result .symbols) j (z .pre .inner) lj)
-          (h .last .1 .1 .1 .1 .1 .1 .1 .1 .0) (h .ensures .0) (h .ensures .1 .0) _ (stored .ensures .0) _ (stored .ensures .1),
-      search (needs, c .before .before .before .before .scores, l .inv),
-      search (needs, c .before .before .before .penalties, l .inv),
+          (h .last .1 .1 .1 .1 .1 .1 .1 .1 .0) (h .ensures .0) (h .ensures .1 .0) _ (c .before .before .before .store-narrow-scores .ensures),
+      search (needs, c .before .before .scores, l .inv),
     )
+
+add-up-requires : tie.Need-add-up-requires Inv-loop μ-loop
+add-up-requires c κs =
+    let q = c .before .before .before in
+    let z = q .before .before .before .before .before .before .before .before .before in
+    let l = q .loop in
+    (z .pre .penalty-room, sums-small (z .args .inner) (z .args .outer) (z .args .values .now) _ (z .args .t4) (z .args .t5) (z .args .scores .now) (l .r) (l .symbols) (l .planes) (l .rows) (l .paid) (l .scores) (search needs) (l .inv .0) (z .pre .inside ∙ sym (z .pre .count)))
 
 same-length : tie.Need-same-length Inv-loop μ-loop
 same-length c = search needs
@@ -209,10 +198,10 @@ same-length-2 c = search needs
 
 returns : tie.Need-returns Inv-loop μ-loop
 returns c =
-    let q = c .before in
+    let q = c .before .before .before .before .before .before in
     let a = q .before .before .before .before .before .before .before .before .before .args in
     let l = q .loop in
-    all-rows (a .inner) (a .outer) (a .values .now) _ (a .t4) (a .t5) (a .scores .now) (a .penalties .now) (l .r) (l .symbols) (l .planes) (l .rows) (l .penalty) _ _ (search needs) (l .inv .0)
+    all-rows (a .inner) (a .outer) (a .values .now) _ (a .t4) (a .t5) (a .scores .now) (l .r) (l .symbols) (l .planes) (l .rows) (l .paid) _ (search needs) (l .inv .0) (a .penalties .now) _ (c .before .before .add-up .ensures)
 
 pub frame-run-spec : {M : Type 1} → statement M
 frame-run-spec =
@@ -239,9 +228,10 @@ frame-run-spec =
     mul-hadamard-run-2
     array-read-hadamard-run-2
     hadamard-run-requires
-    mul-store-run
-    store-run-requires
-    element-copy-out-penalty
+    mul-store-narrow-scores
+    store-narrow-scores-requires
+    mul-paid
+    array-set-from-paid
     mul-symbols
     array-write-symbols
     row-sum-requires
@@ -250,6 +240,7 @@ frame-run-spec =
     add-r
     loop-less
     loop-again
+    add-up-requires
     same-length
     same-length-2
     returns)

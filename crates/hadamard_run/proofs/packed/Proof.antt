@@ -1,7 +1,7 @@
 -- `hadamard_run::packed` meets its contract. The first s bits are the first s symbols. Assumes nothing.
 use Prim.Native.Nat.{_-_}
 use Rattle.bits.specs.Packed.{bits}
-use Rattle.hadamard_run.proofs.Counted.{Packing, packing-none, packing-next, packing-all}
+use Rattle.hadamard_run.proofs.Packing.{Packing, packing-none, packing-next, packing-all}
 use borrow.Author.Needs.{needs}
 use Rattle.hadamard_run.proofs.packed.Statement.{statement}
 use Rattle.hadamard_run.proofs.packed.Tie as tie

@@ -1,34 +1,30 @@
--- `run::kernel_run` meets its contract: after s phases the first s symbols are those by their sources, and their scores and penalties are
--- written. Assumes nothing.
+-- `run::kernel_run` meets its contract: after s phases the first s symbols are those by their sources, and their scores are written.
+-- Assumes nothing.
 use mathlib.Core.Path.{_≡_, refl, ap, _∙_}
 use mathlib.Core.List.{[]}
-use Prim.Native.Nat.{_+_, _-_, _≤_, _<_}
-use native.Mathlib.Omega.{arith}
+use Prim.Native.Nat.{_-_, _≤_, _<_}
 use lib.ListN.{take, getD}
 use mir.Facts.{toZ-ofZ}
 use Rattle.base.specs.Bit.{bit}
 use Rattle.bits.specs.Packed.{bits}
 use Rattle.bits.proofs.Packed.{length-bits, zero-at}
-use Rattle.polar.specs.Code.{pay, score}
-use Rattle.polar.proofs.Least.{least-cong, channel-nil}
+use Rattle.polar.specs.Code.{score}
 use Rattle.folds.specs.Range.{valueLimit}
 use Rattle.folds.specs.Rows.{costsOf, Within}
-use Rattle.folds.proofs.Limit.{limit-room}
 use Rattle.kernel.specs.Kernels.{kernelCode}
-use Rattle.kernel.proofs.Undoing.{kernel-code-onto}
 use Rattle.windows.proofs.Following.{range, difference-asks, difference-is}
 use Rattle.run.specs.Run.{symbolBy}
-use Rattle.run.proofs.Phases.{AfterPhases, no-phase, phase-turn, next-bound, run-of}
+use Rattle.run.proofs.Phases.{AfterPhases, no-phase, phase-turn, run-of}
 use borrow.Author.Needs.{needs}
 use Rattle.run.proofs.kernel_run.Statement.{statement}
 use Rattle.run.proofs.kernel_run.Tie as tie
 
 abbrev Inv-loop : tie.InvT-loop
-Inv-loop kernel shapes tables values free given start costs symbols₀ scores₀ penalties₀ rows₀ own₀ penalty₀ s₀ symbols scores penalties rows own penalty s =
-    AfterPhases kernel (costsOf costs) (bit (bits 16 free)) (bit (bits 16 given)) start s (bits 16 symbols) scores penalties rows own penalty
+Inv-loop kernel shapes tables values free given costs symbols₀ scores₀ rows₀ own₀ s₀ symbols scores rows own s =
+    AfterPhases kernel (costsOf costs) (bit (bits 16 free)) (bit (bits 16 given)) s (bits 16 symbols) scores rows own
 
 abbrev μ-loop : tie.MeasureT-loop
-μ-loop kernel shapes tables values free given start costs symbols₀ scores₀ penalties₀ rows₀ own₀ penalty₀ s₀ symbols scores penalties rows own penalty s = 16 - s
+μ-loop kernel shapes tables values free given costs symbols₀ scores₀ rows₀ own₀ s₀ symbols scores rows own s = 16 - s
 
 cost-rows-requires : tie.Need-cost-rows-requires Inv-loop μ-loop
 cost-rows-requires c κs = search needs
@@ -39,11 +35,7 @@ most c = c .cost-rows .ensures .1 valueLimit (c .before .pre .1 .1 .1)
 
 loop-holds : tie.Need-loop-holds Inv-loop μ-loop
 loop-holds c =
-    let r = c .before in
-    let C = kernelCode (r .args .kernel) in
-    no-phase (r .args .kernel) (costsOf (c .cost-rows .result)) _ _ (r .args .start)
-    (least-cong C (λ i l b. c .cost-rows .ensures .0 i b l) [] ∙ channel-nil C (kernel-code-onto (r .args .kernel)) (r .args .values .now))
-    (bits 16 0) (length-bits 16 0) (zero-at 16) _ _ _ _ refl refl
+    no-phase (c .before .args .kernel) (costsOf (c .cost-rows .result)) _ _ (bits 16 0) (length-bits 16 0) (zero-at 16) _ _ _ refl
 
 mul-shape : tie.Need-mul-shape Inv-loop μ-loop
 mul-shape c = search needs
@@ -61,7 +53,7 @@ step-requires : tie.Need-step-requires Inv-loop μ-loop
 step-requires c κs =
     let l = c .before .before .before .before .loop in
     let r = c .before .before .before .before .before .before in (
-      (r .pre .0 .0, search needs),
+      (r .pre .0, search needs),
       (
         (
           ap (λ t. getD t (l .s) []) (c .before .before .before .before .before .before .pre .1 .0 .0),
@@ -78,7 +70,7 @@ in-phase : (c : tie.After-step Inv-loop μ-loop) → (let s = c .before .before 
 in-phase c =
     let l = c .before .before .before .before .before .loop in
     let r = c .before .before .before .before .before .before .before in
-    range (r .args .kernel) (r .pre .0 .0) (c .before .before .before .before .before .before .cost-rows .result) (most (c .before .before .before .before .before .before)) (l .symbols) _ (c .before .before .before .before .before .before .before .pre .1 .0 .0) (l .s) (search needs)
+    range (r .args .kernel) (r .pre .0) (c .before .before .before .before .before .before .cost-rows .result) (most (c .before .before .before .before .before .before)) (l .symbols) _ (c .before .before .before .before .before .before .before .pre .1 .0 .0) (l .s) (search needs)
 
 -- and the difference is the score.
 found : (c : tie.After-difference Inv-loop μ-loop) → (let l = c .before .before .before .before .before .before .before .before .loop in
@@ -87,7 +79,7 @@ found : (c : tie.After-difference Inv-loop μ-loop) → (let l = c .before .befo
 found c =
     let l = c .before .before .before .before .before .before .before .before .loop in
     let r = c .before .before .before .before .before .before .before .before .before .before in
-    difference-is (r .args .kernel) (r .pre .0 .0) (c .before .before .before .before .before .before .before .before .before .cost-rows .result) (most (c .before .before .before .before .before .before .before .before .before)) (l .symbols) _ (c .before .before .before .before .before .before .before .before .before .before .pre .1 .0 .0) (l .s) (search needs)
+    difference-is (r .args .kernel) (r .pre .0) (c .before .before .before .before .before .before .before .before .before .cost-rows .result) (most (c .before .before .before .before .before .before .before .before .before)) (l .symbols) _ (c .before .before .before .before .before .before .before .before .before .before .pre .1 .0 .0) (l .s) (search needs)
     (c .before .before .before .step .result) (c .before .before .before .step .ensures) (c .before .path-count .result) (c .before .path-count .ensures) (c .difference .result) (c .difference .ensures)
 
 path-count-requires : tie.Need-path-count-requires Inv-loop μ-loop
@@ -97,14 +89,11 @@ difference-requires : tie.Need-difference-requires Inv-loop μ-loop
 difference-requires c κs =
     let l = c .before .before .before .before .before .before .before .loop in
     let r = c .before .before .before .before .before .before .before .before .before in
-    difference-asks (r .args .kernel) (r .pre .0 .0) (c .before .before .before .before .before .before .before .before .cost-rows .result) (most (c .before .before .before .before .before .before .before .before)) (l .symbols) _ (c .before .before .before .before .before .before .before .before .before .pre .1 .0 .0) (l .s) (search needs)
+    difference-asks (r .args .kernel) (r .pre .0) (c .before .before .before .before .before .before .before .before .cost-rows .result) (most (c .before .before .before .before .before .before .before .before)) (l .symbols) _ (c .before .before .before .before .before .before .before .before .before .pre .1 .0 .0) (l .s) (search needs)
     (c .before .before .step .result) (c .before .before .step .ensures) (c .path-count .result) (c .path-count .ensures)
 
 symbol-of-requires : tie.Need-symbol-of-requires Inv-loop μ-loop
 symbol-of-requires c κs = search needs
-
-paid-requires : tie.Need-paid-requires Inv-loop μ-loop
-paid-requires c κs = search needs
 
 -- The symbol of the phase, by its source.
 owned : (c : tie.After-symbol-of Inv-loop μ-loop) → (let l = c .before .before .before .before .before .before .before .before .before .loop in
@@ -116,38 +105,11 @@ owned c =
     c .symbol-of .ensures
     ∙ ap (symbolBy (bit (bits 16 (a .free)) (l .s)) (bit (bits 16 (a .given)) (l .s))) (toZ-ofZ {z = c .before .difference .result} (record { sfits = c .before .difference .ok }))
 
--- What it pays.
-pays : (c : tie.After-paid Inv-loop μ-loop) → c .paid .result ≡ pay (c .before .before .difference .result) (c .before .symbol-of .result)
-pays c = c .paid .ensures ∙ ap (λ y. pay y (c .before .symbol-of .result)) (toZ-ofZ {z = c .before .before .difference .result} (record { sfits = c .before .before .difference .ok }))
-
--- The penalty stays small.
-small : (c : tie.After-paid Inv-loop μ-loop) → (let l = c .before .before .before .before .before .before .before .before .before .before .loop in l .penalty + c .paid .result ≤ 16777216 + 16777216)
-small c =
-    let l = c .before .before .before .before .before .before .before .before .before .before .loop in
-    let r = c .before .before .before .before .before .before .before .before .before .before .before .before in
-    omega (
-      arith,
-      pays c,
-      r .pre .0 .1,
-      limit-room,
-      next-bound (r .args .kernel) _ _ _ (r .args .start) (l .s) _ _ _ _ _ _ (l .inv) (search needs) _ (found (c .before .before)) _ (owned (c .before))
-          (c .before .before .before .before .before .step .result) (c .before .before .before .before .before .step .ensures) _ refl (most (c .before .before .before .before .before .before .before .before .before .before .before)),
-    )
-
-add-penalty : tie.Need-add-penalty Inv-loop μ-loop
-add-penalty c = omega (arith, small c)
-
 mul-scores : tie.Need-mul-scores Inv-loop μ-loop
 mul-scores c = search needs
 
 array-set-from-scores : tie.Need-array-set-from-scores Inv-loop μ-loop
 array-set-from-scores c = search needs
-
-mul-penalties : tie.Need-mul-penalties Inv-loop μ-loop
-mul-penalties c = search needs
-
-array-write-penalties : tie.Need-array-write-penalties Inv-loop μ-loop
-array-write-penalties c = search needs
 
 with-bit-requires : tie.Need-with-bit-requires Inv-loop μ-loop
 with-bit-requires c κs = search needs
@@ -160,19 +122,19 @@ loop-less c = search needs
 
 loop-again : tie.Need-loop-again Inv-loop μ-loop
 loop-again c =
-    let l = c .before .before .before .before .before .before .before .before .before .before .before .loop in
-    let r = c .before .before .before .before .before .before .before .before .before .before .before .before .before in
-    let e = c .before .before .before in
+    let l = c .before .before .before .before .before .before .before .before .before .before .loop in
+    let r = c .before .before .before .before .before .before .before .before .before .before .before .before in
+    let e = c .before .before in
     let d = e .difference .result in
-    phase-turn (r .args .kernel) _ _ _ (r .args .start) (l .s) _ _ _ _ _ _ (l .inv) (search needs) d (found e) _ (owned (c .before .before))
-    (c .before .before .before .before .before .before .step .result) (c .before .before .before .before .before .before .step .ensures) _ (c .with-bit .ensures)
-    _ (toZ-ofZ {z = d} (record { sfits = e .difference .ok })) _ (pays (c .before))
+    phase-turn (r .args .kernel) _ _ _ (l .s) _ _ _ _ (l .inv) (search needs) d (found e) _ (owned (c .before))
+    (c .before .before .before .before .before .step .result) (c .before .before .before .before .before .step .ensures) _ (c .with-bit .ensures)
+    _ (toZ-ofZ {z = d} (record { sfits = e .difference .ok }))
 
 returns : tie.Need-returns Inv-loop μ-loop
 returns c =
     let l = c .before .loop in
     let r = c .before .before .before in
-    run-of (r .args .kernel) (r .args .values .now) _ (c .before .before .cost-rows .ensures .0) (r .args .free) (r .args .given) (r .args .start) (l .symbols) (l .scores) (l .penalties) (l .rows) (l .own) (l .penalty) (l .s)
+    run-of (r .args .kernel) (r .args .values .now) _ (c .before .before .cost-rows .ensures .0) (r .args .free) (r .args .given) (l .symbols) (l .scores) (l .rows) (l .own) (l .s)
     (search needs) (l .inv)
 
 pub kernel-run-spec : {M : Type 1} → statement M
@@ -191,12 +153,8 @@ kernel-run-spec =
     path-count-requires
     difference-requires
     symbol-of-requires
-    paid-requires
-    add-penalty
     mul-scores
     array-set-from-scores
-    mul-penalties
-    array-write-penalties
     with-bit-requires
     add-s
     loop-less
