@@ -1,5 +1,6 @@
 // Frame follow and frame decode: the checks, and the run of a frame with its symbols given or decided.
 ghost use mathlib.Core.Path.{_≡_};
+ghost use lib.Dec.{ltb};
 ghost use lib.ListN.{length};
 ghost use Rattle.folds.specs.Range.{firstOutside};
 ghost use Rattle.answer.specs.Verdict.{verdict, done, settle};
@@ -7,11 +8,28 @@ ghost use Rattle.mask.specs.Mask.{payloadBytes};
 ghost use Rattle.decode.specs.Jobs.{frameFollowChecks, frameFollow, frameDecodeChecks, frameDecode};
 use answer::Answer;
 
-// The lowest index whose value lies outside -127 to 127, or 256, block by block.
+// Whether some value lies outside -127 to 127, that is, is -128.
+fn some_outside(values: &[i8]) -> bool
+    requires { ⌜ length (now values) ≡ 256 ⌝ }
+    ensures { λ r. ⌜ r ≡ ltb (firstOutside 127 (now (values .entry))) 256 ⌝ }
+{
+    let mut found = false;
+    let mut i: usize = 0;
+    while i < 256 {
+        found = found | (values[i] == -128);
+        i += 1;
+    }
+    found
+}
+
+// The lowest index whose value lies outside -127 to 127, or 256. It is searched block by block where there is one, which is seldom.
 fn frame_outside(values: &[i8]) -> usize
     requires { ⌜ length (now values) ≡ 256 ⌝ }
     ensures { λ r. ⌜ r ≡ firstOutside 127 (now (values .entry)) ⌝ }
 {
+    if !some_outside(values) {
+        return 256;
+    }
     let mut j: usize = 0;
     while j < 16 {
         let block = frame_run::block_values(values, j);
