@@ -87,13 +87,17 @@ Others f n out = (j : ℕ) → j < n → Node f j (getD out (8 + j) [])
 abbrev none : List (List ℕ)
 none = replicate 2 (replicate 16 0)
 
-pub folded-none : (costs : List (List (List ℕ))) (f : ℕ → Costs) → Folded costs f 0 (replicate 16 none)
-folded-none costs f =
+-- Sixteen of these,
+pub none-within : LanesWithin 0 (replicate 16 none)
+none-within j lj l b ll = rw (getD-replicate 16 j none [] lj, filled-none {X = ℕ} 0 16 (λ _ _. 0) .rest l b (omega arith)) (omega arith)
+
+-- and any sixteen that pay nothing, before the first is folded.
+pub folded-none : (costs : List (List (List ℕ))) (f : ℕ → Costs) (out : List (List (List ℕ))) → length out ≡ 16 → LanesWithin 0 out → Folded costs f 0 out
+folded-none costs f out s z =
     record {
-      size = refl;
+      size = s;
       nodes = λ j l. absurd (omega arith);
-      within = λ m w j lj l b ll.
-          rw (getD-replicate 16 j none [] lj, filled-none {X = ℕ} 0 16 (λ _ _. 0) .rest l b (omega arith)) (omega arith);
+      within = λ m w j lj l b ll. omega (arith, z j lj l b ll);
     }
 
 module _ (costs : List (List (List ℕ))) (f : ℕ → Costs) (d : Doubles costs f) (n : ℕ) (ln : n < 8) (place : List (List ℕ)) (e : Node f n place) where
@@ -141,8 +145,8 @@ module _ (words : List ℕ) (costs : List (List (List ℕ))) (both : Bool) where
   abbrev pub KnownTo : ℕ → List (List (List ℕ)) → Type 0
   KnownTo n out = Folded costs (knownNodes (wordAt words) costs) n out × (both ≡ true → Others (knownNodes (otherAt words) costs) n out)
 
-  pub known-none : KnownTo 0 (replicate 16 none)
-  known-none = (folded-none costs _, λ e j l. absurd (omega arith))
+  pub known-none : (out : List (List (List ℕ))) → length out ≡ 16 → LanesWithin 0 out → KnownTo 0 out
+  known-none out s z = (folded-none costs _ out s z, λ e j l. absurd (omega arith))
 
   module _ (n : ℕ) (ln : n < 8) (out : List (List (List ℕ))) (h : KnownTo n out) (place : List (List ℕ)) (e : Node (knownNodes (wordAt words) costs) n place) where
     first : Folded costs (knownNodes (wordAt words) costs) (n + 1) (set out n place)

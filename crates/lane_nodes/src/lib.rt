@@ -3,6 +3,7 @@
 ghost use mathlib.Core.Path.{_≡_};
 ghost use mathlib.Core.Bool.{Bool, true, false, not};
 ghost use Prim.Native.Nat.{ℕ, _+_, _/_, _<_, min};
+ghost use lib.ListN.{length};
 ghost use Rattle.base.specs.Bit;
 ghost use Rattle.base.specs.Bit.{_⊕_};
 ghost use Rattle.bits.specs.Packed.{bits};
@@ -63,19 +64,19 @@ pub fn free_eight(costs: &[[[u16; 16]; 2]; 16]) -> [[[u16; 16]; 2]; 16]
 }
 
 // Sixteen places folded onto eight, the first ones known; and again with each bit of these the other one, where both are asked
-// for.
+// for. They are left in an array of zeros that is lent, since the compiler copies one that is handed back.
 pub fn known_eight(
     flags: &[u16; 16],
     words: &[u16; 16],
     both: bool,
     costs: &[[[u16; 16]; 2]; 16],
-) -> [[[u16; 16]; 2]; 16]
-    requires { ⌜ (now flags ≡ laneBits) × LanesWithin 16383 (now costs) ⌝ }
-    ensures nodes { λ r. ⌜ ((j l : ℕ) (b : Bool) → j < 8 → l < 16 → laneCosts r l j b ≡ knownFold 8 (wordAt (now (words .entry)) l) (laneCosts (now (costs .entry)) l) j b) ⌝ }
-    ensures others { λ r. ⌜ (both ≡ true → (j l : ℕ) (b : Bool) → j < 8 → l < 16 → laneCosts r l (8 + j) b ≡ knownFold 8 (λ i. not (wordAt (now (words .entry)) l i)) (laneCosts (now (costs .entry)) l) j b) ⌝ }
-    ensures within { λ r. ⌜ ((n : ℕ) → LanesWithin n (now (costs .entry)) → LanesWithin (n + n) r) ⌝ }
+    out: &mut [[[u16; 16]; 2]; 16],
+)
+    requires { ⌜ (now flags ≡ laneBits) × LanesWithin 16383 (now costs) × (length (now out) ≡ 16) × LanesWithin 0 (now out) ⌝ }
+    ensures nodes { λ _. ⌜ ((j l : ℕ) (b : Bool) → j < 8 → l < 16 → laneCosts (now (out .exit)) l j b ≡ knownFold 8 (wordAt (now (words .entry)) l) (laneCosts (now (costs .entry)) l) j b) ⌝ }
+    ensures others { λ _. ⌜ (both ≡ true → (j l : ℕ) (b : Bool) → j < 8 → l < 16 → laneCosts (now (out .exit)) l (8 + j) b ≡ knownFold 8 (λ i. not (wordAt (now (words .entry)) l i)) (laneCosts (now (costs .entry)) l) j b) ⌝ }
+    ensures within { λ _. ⌜ ((n : ℕ) → LanesWithin n (now (costs .entry)) → LanesWithin (n + n) (now (out .exit))) ⌝ }
 {
-    let mut out = [[[0u16; 16]; 2]; 16];
     let mut j: usize = 0;
     while j < 8 {
         out[j] = known_place(flags, words[j], &costs[j], &costs[8 + j]);
@@ -84,5 +85,4 @@ pub fn known_eight(
         }
         j += 1;
     }
-    out
 }

@@ -116,7 +116,8 @@ fn next_rows(
         all_paths(flags, table, phase, high, halves, words, rows);
         return;
     }
-    let nodes = lane_nodes::known_eight(flags, &words, phase < high, costs);
+    let mut nodes = [[[0u16; 16]; 2]; 16];
+    lane_nodes::known_eight(flags, &words, phase < high, costs, &mut nodes);
     all_paths(flags, table, phase, high, &nodes, words, rows);
 }
 

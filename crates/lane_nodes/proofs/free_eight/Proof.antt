@@ -1,8 +1,9 @@
 -- `lane_nodes::free_eight` meets its contract: the first j places are folded. Assumes nothing.
+use mathlib.Core.Path.{refl}
 use Prim.Native.Nat.{_+_, _-_, _≤_}
 use native.Mathlib.Omega.{arith}
 use borrow.Author.Needs.{needs}
-use Rattle.lane_nodes.proofs.Places.{freeNodes, Folded, folded-none, folded-next, free-doubles}
+use Rattle.lane_nodes.proofs.Places.{freeNodes, Folded, none-within, folded-none, folded-next, free-doubles}
 use Rattle.lane_nodes.proofs.free_eight.Statement.{statement}
 use Rattle.lane_nodes.proofs.free_eight.Tie as tie
 
@@ -13,7 +14,7 @@ abbrev μ-loop : tie.MeasureT-loop
 μ-loop costs out₀ j₀ out j = 8 - j
 
 loop-holds : tie.Need-loop-holds Inv-loop μ-loop
-loop-holds c = (search needs, folded-none _ _)
+loop-holds c = (search needs, folded-none _ _ _ refl none-within)
 
 mul-free-place : tie.Need-mul-free-place Inv-loop μ-loop
 mul-free-place c = search needs

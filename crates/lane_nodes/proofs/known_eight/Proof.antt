@@ -14,7 +14,7 @@ abbrev μ-loop : tie.MeasureT-loop
 μ-loop flags words both costs out₀ j₀ out j = 8 - j
 
 loop-holds : tie.Need-loop-holds Inv-loop μ-loop
-loop-holds c = (search needs, known-none (c .args .words .now) (c .args .costs .now) (c .args .both))
+loop-holds c = (search needs, known-none (c .args .words .now) (c .args .costs .now) (c .args .both) _ (c .pre .2) (c .pre .3))
 
 mul-known-place : tie.Need-mul-known-place Inv-loop μ-loop
 mul-known-place c = search needs
@@ -43,11 +43,11 @@ known-place-requires c κs =
     let s = c .before .before .before .before .before in
     (s .pre .0, s .pre .1 (k .j) (search needs), s .pre .1 (8 + k .j) (search needs))
 
-mul-out : tie.Need-mul-out Inv-loop μ-loop
-mul-out c = search needs
+mul-t22 : tie.Need-mul-t22 Inv-loop μ-loop
+mul-t22 c = search needs
 
-array-set-from-out : tie.Need-array-set-from-out Inv-loop μ-loop
-array-set-from-out c = search needs
+element-set-from-out : tie.Need-element-set-from-out Inv-loop μ-loop
+element-set-from-out c = search needs
 
 mul-known-place-4 : tie.Need-mul-known-place-4 Inv-loop μ-loop
 mul-known-place-4 c = search needs
@@ -77,14 +77,14 @@ known-place-requires-2 c κs =
     let s = d .before .before .before .before .before .before in
     (s .pre .0, s .pre .1 (k .j) (search needs), s .pre .1 (8 + k .j) (search needs))
 
-add-out : tie.Need-add-out Inv-loop μ-loop
-add-out c = search needs
+add-t40 : tie.Need-add-t40 Inv-loop μ-loop
+add-t40 c = search needs
 
-mul-out-2 : tie.Need-mul-out-2 Inv-loop μ-loop
-mul-out-2 c = search needs
+mul-t41 : tie.Need-mul-t41 Inv-loop μ-loop
+mul-t41 c = search needs
 
-array-set-from-out-2 : tie.Need-array-set-from-out-2 Inv-loop μ-loop
-array-set-from-out-2 c = search needs
+element-set-from-out-2 : tie.Need-element-set-from-out-2 Inv-loop μ-loop
+element-set-from-out-2 c = search needs
 
 add-j : tie.Need-add-j Inv-loop μ-loop
 add-j c = search needs
@@ -125,8 +125,8 @@ known-eight-spec =
     mul-known-place-3
     index-1-known-place-2
     known-place-requires
-    mul-out
-    array-set-from-out
+    mul-t22
+    element-set-from-out
     mul-known-place-4
     element-copy-out-known-place-2
     mul-known-place-5
@@ -135,9 +135,9 @@ known-eight-spec =
     mul-known-place-6
     index-1-known-place-4
     known-place-requires-2
-    add-out
-    mul-out-2
-    array-set-from-out-2
+    add-t40
+    mul-t41
+    element-set-from-out-2
     add-j
     loop-less
     loop-again

@@ -1,5 +1,5 @@
 -- `lane_step::next_rows` meets its contract. Assumes nothing.
-use mathlib.Core.Path.{_≡_, sym, ap, _∙_}
+use mathlib.Core.Path.{_≡_, refl, sym, ap, _∙_}
 use mathlib.Core.List.{List, []}
 use Prim.Native.Nat.{ℕ, _+_, _-_, _≤_, _<_}
 use native.Mathlib.Omega.{arith}
@@ -8,6 +8,7 @@ use lib.ListN.{getD}
 use Rattle.windows.specs.Tables.{shapeTable, shapeAt}
 use Rattle.windows.proofs.Stepping.{in-range}
 use Rattle.lane.specs.Lanes.{LanesWithin}
+use Rattle.lane_nodes.proofs.Places.{none-within}
 use Rattle.lane_step.proofs.Fresh.{free-rounds, known-rounds}
 use Rattle.lane_step.proofs.Stepping.{fresh-lanes, again-late, again-few, again-small-lane, again-lanes}
 use borrow.Author.Needs.{needs}
@@ -70,12 +71,12 @@ returns-2 c = let w = c .before .before .before in
     )
 
 known-eight-requires : tie.Need-known-eight-requires
-known-eight-requires c κs = let p = c .before .before .before .before .pre in
-    (p .0 .2, λ j lj l b ll. omega (arith, p .1 .1 .0 .0 j lj l b ll))
+known-eight-requires c κs = let p = c .before .before .before .before .before .pre in
+    (p .0 .2, λ j lj l b ll. omega (arith, p .1 .1 .0 .0 j lj l b ll), refl, none-within)
 
 all-paths-requires-2 : tie.Need-all-paths-requires-2
 all-paths-requires-2 c κs = let k = c .before .before in
-    let s = k .before .before .before .before .before in
+    let s = k .before .before .before .before .before .before in
     let a = s .args in
     let p = s .pre in
     let r = in-range (a .kernel) (a .phase) (p .0 .0) (p .0 .1) 0 (a .t3) (p .1 .0 .0) in
@@ -83,7 +84,7 @@ all-paths-requires-2 c κs = let k = c .before .before in
 
 returns-3 : tie.Need-returns-3
 returns-3 c = let k = c .before .before .before in
-    let e = k .before .before in
+    let e = k .before .before .before in
     let w = e .before in
     let s = w .before .before in
     let a = s .args in
@@ -94,7 +95,7 @@ returns-3 c = let k = c .before .before .before in
       fresh-lanes (a .kernel) (a .phase) (p .0 .0) (p .0 .1) (a .costs .now) (a .planes .now) (getD (a .t3) 0 0) (a .table .now) (ap (λ l. getD l 0 0) (p .1 .0 .0)) (p .1 .0 .1) f (c .all-paths2 .last .1 .1 .1 .1 .1 .1 .0)
           (λ v l b lv ll. c .all-paths2 .ensures .1 v l b lv ll
           ∙ known-rounds (a .table .now) (a .planes .now) (w .words-of .result) (a .costs .now) (a .phase) (getD (a .t3) 0 0) (r .0) (r .1) (w .words-of .ensures) v l ll
-          (k .known-eight .result) (k .known-eight .ensures .0) (λ d. k .known-eight .ensures .1 .0 (lt-ltb (a .phase) (getD (a .t3) 0 0) d)) (e .if2 .left) b),
+          (k .known-eight .last .1 .1 .1 .1 .0) (k .known-eight .ensures .0) (λ d. k .known-eight .ensures .1 .0 (lt-ltb (a .phase) (getD (a .t3) 0 0) d)) (e .if2 .left) b),
     )
 
 pub next-rows-spec : {M : Type 1} → statement M
