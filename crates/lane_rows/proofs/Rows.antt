@@ -1,5 +1,5 @@
 -- One lane's entries, as the code reads them. Assumes nothing.
-use mathlib.Core.Path.{_≡_, refl, sym, ap, ap₂, _∙_}
+use mathlib.Core.Path.{_≡_, sym, ap, ap₂, _∙_}
 use mathlib.Core.Bool.{Bool, true, false}
 use mathlib.Core.List.{List}
 use Prim.Native.Nat.{ℕ, suc, _+_, _-_, _^_, _≤_, _<_, min}
@@ -48,14 +48,27 @@ module _ (a b : ℕ) (la : a < 2 ^ 16) (lb : b < 2 ^ 16) where
 -- ---- the least of some paths
 
 -- One number,
-pub least-first : (g : ℕ → ℕ) → g 0 ≡ leastTo g 0
+pub least-first : (g : ℕ → ℕ) (n : ℕ) → g 0 ≡ leastTo g (min 0 n)
 unfolding leastTo
-least-first g = refl
+least-first g n =
+    let e : 0 ≡ min 0 n = omega arith in
+    ap (leastTo g) e
 
--- and one more.
-pub least-next : (g : ℕ → ℕ) (w x y : ℕ) → 0 < w → x ≡ leastTo g (w - 1) → y ≡ g w → min x y ≡ leastTo g (w + 1 - 1)
+-- one more,
+least-one : (g : ℕ → ℕ) (w x : ℕ) → 0 < w → x ≡ leastTo g (w - 1) → min x (g w) ≡ leastTo g w
 unfolding leastTo
-least-next g w x y l ex ey =
-    let e : suc (w - 1) ≡ w = omega arith in
-    let f : w + 1 - 1 ≡ suc (w - 1) = omega arith in
-    ap₂ min ex (ey ∙ ap g (sym e)) ∙ ap (leastTo g) (sym f)
+least-one g w x l e =
+    let s : suc (w - 1) ≡ w = omega arith in
+    ap₂ min e (ap g (sym s)) ∙ ap (leastTo g) s
+
+-- and two more, or one where it is the last.
+pub least-next : (g : ℕ → ℕ) (n w i x : ℕ) → 0 < w → w < n → i ≡ min (w + 1) (n - 1) → x ≡ leastTo g (min (w - 1) (n - 1))
+    → min (min x (g w)) (g i) ≡ leastTo g (min (w + 2 - 1) (n - 1))
+least-next g n w i x l h ei ex =
+    let before : min (w - 1) (n - 1) ≡ w - 1 = omega arith in
+    let after : i ≡ min (w + 2 - 1) (n - 1) = omega arith in
+    go (decLt w i) (least-one g w x l (ex ∙ ap (leastTo g) before)) ∙ ap (leastTo g) after
+  where
+    go : Dec (w < i) → min x (g w) ≡ leastTo g w → min (min x (g w)) (g i) ≡ leastTo g i
+    go (yes k) e = let s : i - 1 ≡ w = omega arith in least-one g i _ (omega arith) (e ∙ ap (leastTo g) (sym s))
+    go (no k) e = let s : i ≡ w = omega arith in rw s (omega arith)

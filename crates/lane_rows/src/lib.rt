@@ -2,7 +2,7 @@
 ghost use mathlib.Core.Path.{_≡_};
 ghost use mathlib.Core.Bool.{Bool, true, false};
 ghost use mathlib.Core.List.{[]};
-ghost use Prim.Native.Nat.{ℕ, _-_, _%_, _≤_, _<_, min};
+ghost use Prim.Native.Nat.{ℕ, _+_, _-_, _%_, _≤_, _<_, min};
 ghost use lib.Bits.{bitXor};
 ghost use lib.IntN.{pos, subℕ};
 ghost use lib.ListN.{getD};
@@ -57,19 +57,30 @@ pub fn gathered(numbers: &[u16; 16], c: u16, kept: &[[u16; 16]; 16]) -> [u16; 16
     out
 }
 
-// The lesser of two entries in each lane, for symbol 0 and for symbol 1.
-fn lesser_pair(p: [[u16; 16]; 2], q: &[[u16; 16]; 2]) -> [[u16; 16]; 2]
-    ensures { λ r. ⌜ ((l : ℕ) (b : Bool) → l < 16 → cell 0 r l b ≡ min (cell 0 p l b) (cell 0 (now (q .entry)) l b)) ⌝ }
+// The least of three entries in each lane, for symbol 0 and for symbol 1. With two entries the loop is so short that the compiler
+// unrolls it, and loses its vectors.
+fn least_three(found: &[[u16; 16]; 2], p: &[[u16; 16]; 2], q: &[[u16; 16]; 2]) -> [[u16; 16]; 2]
+    ensures { λ r. ⌜ ((l : ℕ) (b : Bool) → l < 16 → cell 0 r l b ≡ min (min (cell 0 (now (found .entry)) l b) (cell 0 (now (p .entry)) l b)) (cell 0 (now (q .entry)) l b)) ⌝ }
 {
     let mut out = [[0u16; 16]; 2];
     let mut l: usize = 0;
     while l < 16 {
+        let least = lane::at(found, l);
+        let first = lane::at(p, l);
         let second = lane::at(q, l);
-        out[0][l] = lane::lesser(p[0][l], second.zero);
-        out[1][l] = lane::lesser(p[1][l], second.one);
+        out[0][l] = lane::lesser(lane::lesser(least.zero, first.zero), second.zero);
+        out[1][l] = lane::lesser(lane::lesser(least.one, first.one), second.one);
         l += 1;
     }
     out
+}
+
+// The path after path w, or w where it is the last of n.
+fn path_after(w: usize, n: usize) -> usize
+    requires { ⌜ w < n ⌝ }
+    ensures { λ r. ⌜ r ≡ min (w + 1) (n - 1) ⌝ }
+{
+    if w + 1 < n { w + 1 } else { w }
 }
 
 // The least of n paths in each lane, for symbol 0 and for symbol 1.
@@ -80,9 +91,9 @@ fn least_pair(rows: &[[[u16; 16]; 2]; 16], n: usize) -> [[u16; 16]; 2]
     let mut found = rows[0];
     let mut w: usize = 1;
     while w < n {
-        let next = lesser_pair(found, &rows[w]);
+        let next = least_three(&found, &rows[w], &rows[path_after(w, n)]);
         found = next;
-        w += 1;
+        w += 2;
     }
     found
 }
