@@ -2,8 +2,7 @@
 use mathlib.Core.Path.{_≡_, refl, sym, ap, ap₂, _∙_, subst}
 use mathlib.Core.Bool.{Bool}
 use mathlib.Core.List.{List, [], _++_}
-use Prim.Native.Nat.{ℕ, zero, suc, _+_, _*_, _/_, _%_, _≤_, _<_}
-use native.Mathlib.Nat.{add-zero}
+use Prim.Native.Nat.{ℕ, suc, _+_, _*_, _/_, _%_, _≤_, _<_}
 use native.Mathlib.Numerals.{add-one}
 use native.Mathlib.Omega.{arith}
 use lib.ListN.{length, getD, take, drop, set}
@@ -13,10 +12,10 @@ use Rattle.base.specs.Bit.{bit, tabulate}
 use Rattle.base.proofs.List.{length-tabulate, tabulate-at, tabulate-cong, tabulate-append, paste-one}
 use Rattle.polar.specs.Code.{Code, Costs, pay, channel, sum, least, score}
 use Rattle.polar.specs.Follow.{scores, penalties}
-use Rattle.polar.proofs.Minima.{sum-cong, sum-append, quot, rest}
+use Rattle.polar.proofs.Minima.{sum-cong, sum-append, sum-next, quot, rest}
 use Rattle.polar.proofs.Least.{channel-nil}
 use Rattle.polar.proofs.Frame.{frame-onto}
-use Rattle.polar.proofs.Follow.{penalty-runs}
+use Rattle.polar.proofs.Follow.{penalty-sum}
 use Rattle.folds.specs.Range.{firstOutside}
 use Rattle.kernel.specs.Kernels.{kernel}
 use Rattle.kernel.proofs.Solved.{invertible}
@@ -28,14 +27,10 @@ use Rattle.frame_run.proofs.Prefixes.{length-front, front-all}
 use Rattle.frame_run.proofs.Premises.{penalty-small}
 use Rattle.frame_run.proofs.Rows.{AfterRows, paste-next}
 
--- A sum of nothing, and one with its last part.
+-- A sum of nothing.
 pub sum-none : (f : ℕ → ℕ) → sum 0 f ≡ 0
 unfolding sum
 sum-none f = refl
-
-pub sum-next : (n : ℕ) (f : ℕ → ℕ) → sum (suc n) f ≡ sum n f + f n
-unfolding sum
-sum-next n f = ap (λ k. sum k f) (sym (add-one n)) ∙ sum-append n 1 f ∙ ap (λ x. sum n f + x) (add-zero (f (n + 0)) ∙ ap f (add-zero n))
 
 -- The sums of a row, counted on from start.
 abbrev pub rowSums : List ℕ → ℕ → List ℕ
@@ -44,7 +39,7 @@ rowSums paid start = tabulate 16 (λ i. start + sum (suc i) (λ j. getD paid j 0
 -- After i phases one sum more,
 module _ (paid : List ℕ) (start i penalty : ℕ) (is : penalty ≡ start + sum i (λ j. getD paid j 0)) where
   pub next-sum : penalty + getD paid i 0 ≡ start + sum (i + 1) (λ j. getD paid j 0)
-  next-sum = omega (arith, is, sum-next i (λ j. getD paid j 0), ap (λ n. sum n (λ j. getD paid j 0)) (add-one i))
+  next-sum = omega (arith, is, sum-next i (λ j. getD paid j 0))
 
   -- which is written.
   pub next-stored : (at : ℕ) (old out : List ℕ) → i < 16 → at + i < length old → out ≡ paste old at (rowSums paid start) i
@@ -53,23 +48,16 @@ module _ (paid : List ℕ) (start i penalty : ℕ) (is : penalty ≡ start + sum
       paste-one old out (rowSums paid start) at i (at + i) 0 (penalty + getD paid i 0) lo (omega (arith, length-tabulate 16 (λ i. start + sum (suc i) (λ j. getD paid j 0)))) e refl
       (next-sum ∙ ap (λ n. start + sum n (λ j. getD paid j 0)) (add-one i) ∙ sym (tabulate-at 16 (λ i. start + sum (suc i) (λ j. getD paid j 0)) i 0 l))
 
-module _ (C : Code) (m : Costs) (none : least C m [] ≡ 0) (u : List Bool) (fits : length u ≤ C .size) where
-  -- What the first n symbols pay is the least total of the words that agree with them.
-  pub penalty-sum : (n : ℕ) → n ≤ length u → least C m (take n u) ≡ sum n (λ i. pay (score C m (take i u)) (bit u i))
-  unfolding sum
-  penalty-sum zero l = none
-  penalty-sum (suc n) l =
-      penalty-runs C m u n l fits ∙ ap (λ x. x + pay (score C m (take n u)) (bit u n)) (penalty-sum n (omega arith)) ∙ sym (sum-next n (λ i. pay (score C m (take i u)) (bit u i)))
+module _ (C : Code) (m : Costs) (none : least C m [] ≡ 0) (u : List Bool) (fits : length u ≤ C .size)
+    (f : ℕ → ℕ) (pays : (i : ℕ) → i < length u → f i ≡ pay (score C m (take i u)) (bit u i)) where
+  -- What is held of each phase adds up to the penalty,
+  pub sum-is : (n : ℕ) → n ≤ length u → sum n f ≡ least C m (take n u)
+  sum-is n l = sum-cong n (λ i li. pays i (omega arith)) ∙ sym (penalty-sum C m none u fits n l)
 
-  module _ (f : ℕ → ℕ) (pays : (i : ℕ) → i < length u → f i ≡ pay (score C m (take i u)) (bit u i)) where
-    -- The same of payments that are held,
-    pub sum-is : (n : ℕ) → n ≤ length u → sum n f ≡ least C m (take n u)
-    sum-is n l = sum-cong n (λ i li. pays i (omega arith)) ∙ sym (penalty-sum n l)
-
-    -- and of all penalties.
-    pub sums-are : tabulate (length u) (λ i. sum (suc i) f) ≡ penalties C m u
-    unfolding penalties
-    sums-are = tabulate-cong (length u) (λ i l. sum-is (suc i) l)
+  -- at every phase.
+  pub sums-are : tabulate (length u) (λ i. sum (suc i) f) ≡ penalties C m u
+  unfolding penalties
+  sums-are = tabulate-cong (length u) (λ i l. sum-is (suc i) l)
 
 -- ---- row by row
 

@@ -14,8 +14,9 @@ use lib.IntN.{ℤ, pos, negsuc, subℕ}
 use lib.Signed.{_≤ℤ_, _<ℤ_}
 use Rattle.base.specs.Bit.{bit, tabulate}
 use Rattle.base.proofs.List.{length-tabulate, tabulate-at, tabulate-cong, tabulate-next}
-use Rattle.polar.specs.Code.{Code, Costs, pay, least, score}
+use Rattle.polar.specs.Code.{Code, Costs, pay, sum, least, score}
 use Rattle.polar.specs.Follow.{scores, penalties, choose, decodeFrom, decode}
+use Rattle.polar.proofs.Minima.{sum-next}
 use Rattle.polar.proofs.Least.{least-cong, score-least}
 use Rattle.polar.proofs.Values.{penalty-next}
 
@@ -63,6 +64,15 @@ pub penalty-runs : (C : Code) (m : Costs) (u : List Bool) (i : ℕ) → i < leng
 penalty-runs C m u i l lu =
     ap (least C m) (take-suc u i false l)
     ∙ penalty-next C m (take i u) (bit u i) (omega (arith, length-take-le i u (omega arith)))
+
+-- So the penalty of the first n symbols is the sum of what their phases pay, where nothing is paid before the first.
+pub penalty-sum : (C : Code) (m : Costs) → least C m [] ≡ 0 → (u : List Bool) → length u ≤ C .size → (n : ℕ) → n ≤ length u
+    → least C m (take n u) ≡ sum n (λ i. pay (score C m (take i u)) (bit u i))
+unfolding sum
+penalty-sum C m none u lu zero l = none
+penalty-sum C m none u lu (suc n) l =
+    let f : ℕ → ℕ = λ i. pay (score C m (take i u)) (bit u i) in
+    penalty-runs C m u n l lu ∙ ap (λ x. x + f n) (penalty-sum C m none u lu n (omega arith)) ∙ sym (sum-next n f) ∙ ap (λ k. sum k f) (add-one n)
 
 -- ---- the decoder
 

@@ -67,6 +67,11 @@ unfolding sum
 sum-append zero l f = simp zero-add
 sum-append (suc k) l f = simp suc-add (omega (arith, sum-append k l (λ i. f (suc i))))
 
+-- A sum with its last part.
+pub sum-next : (n : ℕ) (f : ℕ → ℕ) → sum (n + 1) f ≡ sum n f + f n
+unfolding sum
+sum-next n f = rw (sum-append n 1 f, add-zero n, add-zero (f n))
+
 -- k blocks of w.
 pub sum-blocks : (k w : ℕ) (f : ℕ → ℕ) → sum (k * w) f ≡ sum k (λ j. sum w (λ t. f (w * j + t)))
 unfolding sum
