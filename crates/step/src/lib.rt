@@ -3,7 +3,6 @@ ghost use mathlib.Core.Path.{_≡_};
 ghost use mathlib.Core.Bool.{Bool, true, false};
 ghost use mathlib.Core.List.{[]};
 ghost use Prim.Native.Nat.{ℕ, _+_, _-_, _*_, _/_, _%_, _^_, _≤_, _<_};
-ghost use lib.Bits.{bitXor};
 ghost use lib.ListN.{take, getD};
 ghost use lib.IntN.{pos, negℤ, natAbs};
 ghost use Rattle.base.specs.Bit;
@@ -27,13 +26,6 @@ fn choice(symbols: u16, phase: usize, own: bool, window: usize, high: usize) -> 
     before + ((own as u32) << (15 - phase)) + rest
 }
 
-// A sum with one more row where it is chosen.
-fn with_row(c: u16, row: u16, chosen: bool) -> u16
-    ensures { λ r. ⌜ (chosen ≡ true → r ≡ bitXor c row) × (chosen ≡ false → r ≡ c) ⌝ }
-{
-    if chosen { c ^ row } else { c }
-}
-
 // What a phase's table makes of a path: the sum of the rows that the symbols and the window choose.
 fn path_word(
     table: &[u16; 16],
@@ -47,13 +39,8 @@ fn path_word(
     ensures { λ r. ⌜ r ≡ pathWordOf (now (table .entry)) symbols phase high own window ⌝ }
 {
     let x = choice(symbols, phase, own, window, high);
-    let mut c: u16 = 0;
-    let mut s: usize = 0;
-    while s < 16 {
-        c = with_row(c, table[s], bits::word_bit(x, s));
-        s += 1;
-    }
-    c as u32
+    let rows = *table;
+    kernel::row_sum(rows, x as u16) as u32
 }
 
 // The first two folds of a path, by whether the first half is known at the one and at the other. The compiler makes vectors of
