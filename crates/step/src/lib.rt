@@ -3,6 +3,7 @@ ghost use mathlib.Core.Path.{_≡_};
 ghost use mathlib.Core.Bool.{Bool, true, false};
 ghost use mathlib.Core.List.{[]};
 ghost use Prim.Native.Nat.{ℕ, _+_, _-_, _*_, _/_, _%_, _^_, _≤_, _<_};
+ghost use lib.Bits.{bitXor};
 ghost use lib.ListN.{take, getD};
 ghost use lib.IntN.{pos, negℤ, natAbs};
 ghost use Rattle.base.specs.Bit;
@@ -16,31 +17,31 @@ use place_folds::PlaceCosts;
 
 mod phases;
 
-// The symbols before a phase, the phase's own, and the window's bits, as the tables take them.
-fn choice(symbols: u16, phase: usize, own: bool, window: usize, high: usize) -> u32
+// The symbols before a phase, 0 for the phase's own, and the window's bits, as the tables take them.
+fn choice(symbols: u16, phase: usize, window: usize, high: usize) -> u32
     requires { ⌜ (phase ≤ high) × (high < 16) × (window < 2 ^ (high - phase)) ⌝ }
-    ensures { λ r. ⌜ (r < 65536) × Choice (take phase (bits 16 symbols)) own (bits (high - phase) window) r ⌝ }
+    ensures { λ r. ⌜ (r < 65536) × Choice (take phase (bits 16 symbols)) false (bits (high - phase) window) r ⌝ }
 {
     let before = (symbols as u32 >> (16 - phase)) << (16 - phase);
     let rest = (window as u32) << (15 - high);
-    before + ((own as u32) << (15 - phase)) + rest
+    before + rest
 }
 
-// What a phase's table makes of a path: the sum of the rows that the symbols and the window choose.
-fn path_word(
-    table: &[u16; 16],
-    symbols: u16,
-    phase: usize,
-    own: bool,
-    window: usize,
-    high: usize,
-) -> u32
+// What a phase's table makes of a path with symbol 0: the sum of the rows that the symbols and the window choose.
+fn path_word(table: &[u16; 16], symbols: u16, phase: usize, window: usize, high: usize) -> u32
     requires { ⌜ (phase ≤ high) × (high < 16) × (window < 2 ^ (high - phase)) ⌝ }
-    ensures { λ r. ⌜ r ≡ pathWordOf (now (table .entry)) symbols phase high own window ⌝ }
+    ensures { λ r. ⌜ r ≡ pathWordOf (now (table .entry)) symbols phase high false window ⌝ }
 {
-    let x = choice(symbols, phase, own, window, high);
+    let x = choice(symbols, phase, window, high);
     let rows = *table;
     kernel::row_sum(rows, x as u16) as u32
+}
+
+// The same with symbol 1: the phase's own row is added.
+fn with_own(word: u32, row: u16) -> u32
+    ensures { λ r. ⌜ (r ≡ bitXor word row) × (row < 65536) ⌝ }
+{
+    word ^ (row as u32)
 }
 
 // The first two folds of a path, by whether the first half is known at the one and at the other. The compiler makes vectors of
@@ -137,7 +138,7 @@ fn one_path(
     requires { ⌜ Within valueLimit (now costs) ⌝ }
     ensures { λ r. ⌜ ((w : ℕ) (b : Bool) → w < 2 ^ (high - phase) → cell (pos 0) r w b ≡ negℤ (pos (pathLeast (now (costs .entry)) high (pathWordOf (now (table .entry)) symbols phase high false w) b))) ⌝ }
 {
-    let word = path_word(table, symbols, phase, false, high - phase, high);
+    let word = path_word(table, symbols, phase, high - phase, high);
     let four = two_folds(costs, high, word);
     let best = best_of(&four, high, word);
     let zero = best.zero;
@@ -164,7 +165,7 @@ fn fresh_rows(
     let mut out = [[0i32; 16]; 2];
     let mut w: usize = 0;
     while w < paths {
-        let word = path_word(table, symbols, phase, false, w, high);
+        let word = path_word(table, symbols, phase, w, high);
         let four = two_folds(costs, high, word);
         let best = best_of(&four, high, word);
         let zero = best.zero;
@@ -195,8 +196,9 @@ fn again_rows(
     let mut out = [[0i32; 16]; 2];
     let mut w: usize = 0;
     while w < paths {
-        let zero = path_word(table, symbols, phase, false, w, high) as usize;
-        let one = path_word(table, symbols, phase, true, w, high) as usize;
+        let first = path_word(table, symbols, phase, w, high);
+        let zero = first as usize;
+        let one = with_own(first, table[phase]) as usize;
         out[0][w] = rows[own][zero];
         out[1][w] = rows[own][one];
         w += 1;

@@ -1,9 +1,20 @@
--- `step::choice` meets its contract: its three parts lie apart, so that their sum holds the bits of each. Assumes nothing.
+-- `step::choice` meets its contract: its parts lie apart, so that their sum holds the bits of each. Assumes nothing.
+use mathlib.Core.Path.{_≡_, subst}
+use mathlib.Core.Bool.{false}
+use Prim.Native.Nat.{ℕ, _+_, _-_, _*_, _%_, _^_}
+use native.Mathlib.Nat.{zero-mul}
 use native.Mathlib.Omega.{arith}
+use lib.ListN.{take}
+use Rattle.bits.specs.Packed.{bits}
+use Rattle.windows.specs.Paths.{Choice}
 use borrow.Author.Needs.{needs}
 use Rattle.windows.proofs.Shifts.{window-lt, shifts-lt, shifts-bits}
 use Rattle.step.proofs.choice.Statement.{statement}
 use Rattle.step.proofs.choice.Tie as tie
+
+-- The own symbol 0 adds nothing.
+no-own : (a k c : ℕ) → a + 0 * 2 ^ k % 2 ^ 32 + c ≡ a + c
+no-own a k c = rw (zero-mul (2 ^ k)) (omega arith)
 
 sub-before : tie.Need-sub-before
 sub-before c = search needs
@@ -35,28 +46,14 @@ cast-rest-2 c = search needs
 shl-rest : tie.Need-shl-rest
 shl-rest c = search needs
 
-cast-result : tie.Need-cast-result
-cast-result c = search needs
-
-sub-result : tie.Need-sub-result
-sub-result c = search needs
-
-cast-result-2 : tie.Need-cast-result-2
-cast-result-2 c = search needs
-
-shl-result : tie.Need-shl-result
-shl-result c = search needs
-
 add-result : tie.Need-add-result
-add-result c = omega (arith, shifts-lt _ _ _ (c .args .own) _ (c .pre .0) (c .pre .1) (c .fits .symbols .fits) (c .pre .2))
-
-add-result-2 : tie.Need-add-result-2
-add-result-2 c = omega (arith, shifts-lt _ _ _ (c .args .own) _ (c .pre .0) (c .pre .1) (c .fits .symbols .fits) (c .pre .2))
+add-result c = omega (arith, shifts-lt _ _ _ false _ (c .pre .0) (c .pre .1) (c .fits .symbols .fits) (c .pre .2))
 
 returns : tie.Need-returns
 returns c = (
-  omega (arith, shifts-lt _ _ _ (c .args .own) _ (c .pre .0) (c .pre .1) (c .fits .symbols .fits) (c .pre .2)),
-  shifts-bits _ _ _ (c .args .own) _ (c .pre .0) (c .pre .1) (c .fits .symbols .fits) (c .pre .2),
+  omega (arith, shifts-lt _ _ _ false _ (c .pre .0) (c .pre .1) (c .fits .symbols .fits) (c .pre .2)),
+  subst (Choice (take (c .args .phase) (bits 16 (c .args .symbols))) false (bits (c .args .high - c .args .phase) (c .args .window))) (no-own _ (15 - c .args .phase) _)
+      (shifts-bits _ _ _ false _ (c .pre .0) (c .pre .1) (c .fits .symbols .fits) (c .pre .2)),
 )
 
 pub choice-spec : {M : Type 1} → statement M
@@ -73,10 +70,5 @@ choice-spec =
     sub-rest
     cast-rest-2
     shl-rest
-    cast-result
-    sub-result
-    cast-result-2
-    shl-result
     add-result
-    add-result-2
     returns)

@@ -1,4 +1,5 @@
 -- `step::path_word` meets its contract. Assumes nothing.
+use mathlib.Core.Bool.{false}
 use borrow.Author.Needs.{needs}
 use Rattle.windows.proofs.Words.{word-found}
 use Rattle.step.proofs.path_word.Statement.{statement}
@@ -20,7 +21,7 @@ returns : tie.Need-returns
 returns c =
     let x = c .before .before .choice in
     let a = c .before .before .before .args in
-    word-found (a .table .now) (a .symbols) (a .phase) (a .high) (a .own) (a .window) (x .result) (x .ensures .0) (x .ensures .1) (c .row-sum .ensures)
+    word-found (a .table .now) (a .symbols) (a .phase) (a .high) false (a .window) (x .result) (x .ensures .0) (x .ensures .1) (c .row-sum .ensures)
 
 pub path-word-spec : {M : Type 1} → statement M
 path-word-spec =
