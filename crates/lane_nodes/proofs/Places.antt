@@ -1,5 +1,5 @@
 -- Places stored one after the other, each folded from two in all lanes. Assumes nothing.
-use mathlib.Core.Path.{_≡_, refl, sym, ap, _∙_}
+use mathlib.Core.Path.{_≡_, sym, ap, _∙_}
 use mathlib.Core.Bool.{Bool, true, false, not, true≢false}
 use mathlib.Core.List.{List, [], _∷_}
 use Prim.Native.Nat.{ℕ, zero, suc, _+_, _≤_, _<_}
@@ -73,11 +73,11 @@ set-each P (x ∷ out) zero d v p (suc i) h = h
 set-each P (x ∷ out) (suc n) d v p zero h = h
 set-each P (x ∷ out) (suc n) d v p (suc i) h = set-each P out n d v p i h
 
--- The first n places pay what f says, and all are within doubled bounds.
-pub record Folded (costs : List (List (List ℕ))) (f : ℕ → Costs) (n : ℕ) (out : List (List (List ℕ))) : Type 0 where
+-- The first n places pay what f says, and all are within doubled bounds where those that stood there before are.
+pub record Folded (costs : List (List (List ℕ))) (f : ℕ → Costs) (old : List (List (List ℕ))) (n : ℕ) (out : List (List (List ℕ))) : Type 0 where
   pub size : length out ≡ 16
   pub nodes : (j : ℕ) → j < n → Node f j (getD out j [])
-  pub within : (m : ℕ) → LanesWithin m costs → LanesWithin (m + m) out
+  pub within : (m : ℕ) → LanesWithin m costs → LanesWithin (m + m) old → LanesWithin (m + m) out
 
 -- The first n places from place 8 on pay what f says.
 abbrev pub Others : (ℕ → Costs) → ℕ → List (List (List ℕ)) → Type 0
@@ -87,30 +87,25 @@ Others f n out = (j : ℕ) → j < n → Node f j (getD out (8 + j) [])
 abbrev none : List (List ℕ)
 none = replicate 2 (replicate 16 0)
 
--- Sixteen of these,
-pub none-within : LanesWithin 0 (replicate 16 none)
-none-within j lj l b ll = rw (getD-replicate 16 j none [] lj, filled-none {X = ℕ} 0 16 (λ _ _. 0) .rest l b (omega arith)) (omega arith)
+-- Sixteen of these are within any bound.
+pub none-within : (n : ℕ) → LanesWithin n (replicate 16 none)
+none-within n j lj l b ll = rw (getD-replicate 16 j none [] lj, filled-none {X = ℕ} 0 16 (λ _ _. 0) .rest l b (omega arith)) (omega arith)
 
--- and any sixteen that pay nothing, before the first is folded.
-pub folded-none : (costs : List (List (List ℕ))) (f : ℕ → Costs) (out : List (List (List ℕ))) → length out ≡ 16 → LanesWithin 0 out → Folded costs f 0 out
-folded-none costs f out s z =
-    record {
-      size = s;
-      nodes = λ j l. absurd (omega arith);
-      within = λ m w j lj l b ll. omega (arith, z j lj l b ll);
-    }
+-- Before the first is folded.
+pub folded-none : (costs : List (List (List ℕ))) (f : ℕ → Costs) (out : List (List (List ℕ))) → length out ≡ 16 → Folded costs f out 0 out
+folded-none costs f out s = record { size = s; nodes = λ j l. absurd (omega arith); within = λ m w h. h }
 
-module _ (costs : List (List (List ℕ))) (f : ℕ → Costs) (d : Doubles costs f) (n : ℕ) (ln : n < 8) (place : List (List ℕ)) (e : Node f n place) where
+module _ (costs : List (List (List ℕ))) (f : ℕ → Costs) (d : Doubles costs f) (old : List (List (List ℕ))) (n : ℕ) (ln : n < 8) (place : List (List ℕ)) (e : Node f n place) where
   -- A folded place is within doubled bounds, and so are all after it is stored.
   place-within : (m : ℕ) → LanesWithin m costs → PairWithin (m + m) place
   place-within m w l b ll = rw (e l b ll) (d m w l n b ll ln)
 
-  within-next : (out : List (List (List ℕ))) (i : ℕ) → ((m : ℕ) → LanesWithin m costs → LanesWithin (m + m) out)
-      → (m : ℕ) → LanesWithin m costs → LanesWithin (m + m) (set out i place)
-  within-next out i h m w j lj = set-each (PairWithin (m + m)) out i [] place (place-within m w) j (h m w j lj)
+  within-next : (out : List (List (List ℕ))) (i : ℕ) → ((m : ℕ) → LanesWithin m costs → LanesWithin (m + m) old → LanesWithin (m + m) out)
+      → (m : ℕ) → LanesWithin m costs → LanesWithin (m + m) old → LanesWithin (m + m) (set out i place)
+  within-next out i h m w o j lj = set-each (PairWithin (m + m)) out i [] place (place-within m w) j (h m w o j lj)
 
   -- The next place is stored,
-  pub folded-next : (out : List (List (List ℕ))) → Folded costs f n out → Folded costs f (n + 1) (set out n place)
+  pub folded-next : (out : List (List (List ℕ))) → Folded costs f old n out → Folded costs f old (n + 1) (set out n place)
   folded-next out h =
       record {
         size = length-set out n place ∙ h .size;
@@ -119,7 +114,7 @@ module _ (costs : List (List (List ℕ))) (f : ℕ → Costs) (d : Doubles costs
       }
 
   -- or the next of the others, and the first ones stay.
-  folded-other : (out : List (List (List ℕ))) (g : ℕ → Costs) → Folded costs g (n + 1) out → Folded costs g (n + 1) (set out (8 + n) place)
+  folded-other : (out : List (List (List ℕ))) (g : ℕ → Costs) → Folded costs g old (n + 1) out → Folded costs g old (n + 1) (set out (8 + n) place)
   folded-other out g h =
       record {
         size = length-set out (8 + n) place ∙ h .size;
@@ -140,17 +135,17 @@ others-next f n out place ln s e h j l = go (decLt j n)
     go (yes k) = rw (getD-set-other out (8 + n) (8 + j) place [] (λ q. omega arith)) (h j k)
     go (no k) = let q : j ≡ n = omega arith in rw (q, getD-set-same out (8 + n) place [] (omega arith)) e
 
-module _ (words : List ℕ) (costs : List (List (List ℕ))) (both : Bool) where
+module _ (words : List ℕ) (costs : List (List (List ℕ))) (both : Bool) (old : List (List (List ℕ))) where
   -- The first n places are folded, and the others where both are asked for.
   abbrev pub KnownTo : ℕ → List (List (List ℕ)) → Type 0
-  KnownTo n out = Folded costs (knownNodes (wordAt words) costs) n out × (both ≡ true → Others (knownNodes (otherAt words) costs) n out)
+  KnownTo n out = Folded costs (knownNodes (wordAt words) costs) old n out × (both ≡ true → Others (knownNodes (otherAt words) costs) n out)
 
-  pub known-none : (out : List (List (List ℕ))) → length out ≡ 16 → LanesWithin 0 out → KnownTo 0 out
-  known-none out s z = (folded-none costs _ out s z, λ e j l. absurd (omega arith))
+  pub known-none : length old ≡ 16 → KnownTo 0 old
+  known-none s = (folded-none costs _ old s, λ e j l. absurd (omega arith))
 
   module _ (n : ℕ) (ln : n < 8) (out : List (List (List ℕ))) (h : KnownTo n out) (place : List (List ℕ)) (e : Node (knownNodes (wordAt words) costs) n place) where
-    first : Folded costs (knownNodes (wordAt words) costs) (n + 1) (set out n place)
-    first = folded-next costs _ (known-doubles (wordAt words) costs) n ln place e out (h .0)
+    first : Folded costs (knownNodes (wordAt words) costs) old (n + 1) (set out n place)
+    first = folded-next costs _ (known-doubles (wordAt words) costs) old n ln place e out (h .0)
 
     -- One place more, where the others are not asked for,
     pub known-one : both ≡ false → (new : List (List (List ℕ))) → new ≡ set out n place → KnownTo (n + 1) new
@@ -161,7 +156,7 @@ module _ (words : List ℕ) (costs : List (List (List ℕ))) (both : Bool) where
         → (new : List (List (List ℕ))) → new ≡ set (set out n place) (8 + n) more → KnownTo (n + 1) new
     known-both more e′ new s =
         rw s (
-          folded-other costs _ (known-doubles (otherAt words) costs) n ln more other (set out n place) _ first,
+          folded-other costs _ (known-doubles (otherAt words) costs) old n ln more other (set out n place) _ first,
           λ t. others-next _ n (set out n place) more ln (first .size) other (others-kept _ n out place ln (h .1 t)),
         )
       where

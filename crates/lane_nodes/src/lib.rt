@@ -2,12 +2,10 @@
 // turns and no branch, and the compiler makes vectors of it.
 ghost use mathlib.Core.Path.{_≡_};
 ghost use mathlib.Core.Bool.{Bool, true, false, not};
-ghost use Prim.Native.Nat.{ℕ, _+_, _/_, _<_, min};
+ghost use Prim.Native.Nat.{ℕ, _+_, _<_, min};
 ghost use lib.ListN.{length};
-ghost use Rattle.base.specs.Bit;
 ghost use Rattle.base.specs.Bit.{_⊕_};
-ghost use Rattle.bits.specs.Packed.{bits};
-ghost use Rattle.polar.specs.Fold.{freeFold, knownFold, folded};
+ghost use Rattle.polar.specs.Fold.{freeFold, knownFold};
 ghost use Rattle.folds.specs.Rows.{cell};
 ghost use Rattle.lane.specs.Lanes.{laneBits, laneBit, wordAt, laneCosts, PairWithin, LanesWithin};
 
@@ -64,7 +62,7 @@ pub fn free_eight(costs: &[[[u16; 16]; 2]; 16]) -> [[[u16; 16]; 2]; 16]
 }
 
 // Sixteen places folded onto eight, the first ones known; and again with each bit of these the other one, where both are asked
-// for. They are left in an array of zeros that is lent, since the compiler copies one that is handed back.
+// for. They are left in an array that is lent, since the compiler copies one that is handed back.
 pub fn known_eight(
     flags: &[u16; 16],
     words: &[u16; 16],
@@ -72,10 +70,10 @@ pub fn known_eight(
     costs: &[[[u16; 16]; 2]; 16],
     out: &mut [[[u16; 16]; 2]; 16],
 )
-    requires { ⌜ (now flags ≡ laneBits) × LanesWithin 16383 (now costs) × (length (now out) ≡ 16) × LanesWithin 0 (now out) ⌝ }
+    requires { ⌜ (now flags ≡ laneBits) × LanesWithin 16383 (now costs) × (length (now out) ≡ 16) ⌝ }
     ensures nodes { λ _. ⌜ ((j l : ℕ) (b : Bool) → j < 8 → l < 16 → laneCosts (now (out .exit)) l j b ≡ knownFold 8 (wordAt (now (words .entry)) l) (laneCosts (now (costs .entry)) l) j b) ⌝ }
     ensures others { λ _. ⌜ (both ≡ true → (j l : ℕ) (b : Bool) → j < 8 → l < 16 → laneCosts (now (out .exit)) l (8 + j) b ≡ knownFold 8 (λ i. not (wordAt (now (words .entry)) l i)) (laneCosts (now (costs .entry)) l) j b) ⌝ }
-    ensures within { λ _. ⌜ ((n : ℕ) → LanesWithin n (now (costs .entry)) → LanesWithin (n + n) (now (out .exit))) ⌝ }
+    ensures within { λ _. ⌜ ((n : ℕ) → LanesWithin n (now (costs .entry)) → LanesWithin (n + n) (now (out .entry)) → LanesWithin (n + n) (now (out .exit))) ⌝ }
 {
     let mut j: usize = 0;
     while j < 8 {

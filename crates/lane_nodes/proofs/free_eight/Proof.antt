@@ -8,13 +8,13 @@ use Rattle.lane_nodes.proofs.free_eight.Statement.{statement}
 use Rattle.lane_nodes.proofs.free_eight.Tie as tie
 
 abbrev Inv-loop : tie.InvT-loop
-Inv-loop costs out₀ j₀ out j = (j ≤ 8) × Folded costs (freeNodes costs) j out
+Inv-loop costs out₀ j₀ out j = (j ≤ 8) × Folded costs (freeNodes costs) out₀ j out
 
 abbrev μ-loop : tie.MeasureT-loop
 μ-loop costs out₀ j₀ out j = 8 - j
 
 loop-holds : tie.Need-loop-holds Inv-loop μ-loop
-loop-holds c = (search needs, folded-none _ _ _ refl none-within)
+loop-holds c = (search needs, folded-none _ _ _ refl)
 
 mul-free-place : tie.Need-mul-free-place Inv-loop μ-loop
 mul-free-place c = search needs
@@ -53,12 +53,12 @@ loop-again : tie.Need-loop-again Inv-loop μ-loop
 loop-again c =
     let k = c .before .before .before .before .loop in
     let costs = c .before .before .before .before .before .args .costs .now in
-    (search needs, folded-next costs (freeNodes costs) (free-doubles costs) (k .j) (search needs) _ (c .free-place .ensures) (k .out) (k .inv .1))
+    (search needs, folded-next costs (freeNodes costs) (free-doubles costs) _ (k .j) (search needs) _ (c .free-place .ensures) (k .out) (k .inv .1))
 
 returns : tie.Need-returns Inv-loop μ-loop
 returns c =
     let k = c .before .loop in
-    ((λ j l b lj ll. k .inv .1 .nodes j (omega arith) l b ll), k .inv .1 .within)
+    ((λ j l b lj ll. k .inv .1 .nodes j (omega arith) l b ll), λ n w. k .inv .1 .within n w (none-within (n + n)))
 
 pub free-eight-spec : {M : Type 1} → statement M
 free-eight-spec =

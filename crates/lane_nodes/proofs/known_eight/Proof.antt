@@ -8,13 +8,13 @@ use Rattle.lane_nodes.proofs.known_eight.Statement.{statement}
 use Rattle.lane_nodes.proofs.known_eight.Tie as tie
 
 abbrev Inv-loop : tie.InvT-loop
-Inv-loop flags words both costs out₀ j₀ out j = (j ≤ 8) × KnownTo words costs both j out
+Inv-loop flags words both costs out₀ j₀ out j = (j ≤ 8) × KnownTo words costs both out₀ j out
 
 abbrev μ-loop : tie.MeasureT-loop
 μ-loop flags words both costs out₀ j₀ out j = 8 - j
 
 loop-holds : tie.Need-loop-holds Inv-loop μ-loop
-loop-holds c = (search needs, known-none (c .args .words .now) (c .args .costs .now) (c .args .both) _ (c .pre .2) (c .pre .3))
+loop-holds c = (search needs, known-none (c .args .words .now) (c .args .costs .now) (c .args .both) _ (c .pre .2))
 
 mul-known-place : tie.Need-mul-known-place Inv-loop μ-loop
 mul-known-place c = search needs
@@ -98,10 +98,10 @@ loop-again c =
     let k = d .before .before .before .before .before .loop in
     let a = d .before .before .before .before .before .before .args in
     let lj : k .j < 8 = search needs in
-    let n : KnownTo (a .words .now) (a .costs .now) (a .both) (k .j + 1) (c .if1 .out) =
+    let n : KnownTo (a .words .now) (a .costs .now) (a .both) (a .out .now) (k .j + 1) (c .if1 .out) =
     ⊎-elim
-    (λ w. known-both (a .words .now) (a .costs .now) (a .both) (k .j) lj (k .out) (k .inv .1) _ (d .known-place .ensures) _ (w .4 .ensures) (c .if1 .out) (w .5))
-    (λ w. known-one (a .words .now) (a .costs .now) (a .both) (k .j) lj (k .out) (k .inv .1) _ (d .known-place .ensures) (w .0 .left) (c .if1 .out) (w .1))
+    (λ w. known-both (a .words .now) (a .costs .now) (a .both) (a .out .now) (k .j) lj (k .out) (k .inv .1) _ (d .known-place .ensures) _ (w .4 .ensures) (c .if1 .out) (w .5))
+    (λ w. known-one (a .words .now) (a .costs .now) (a .both) (a .out .now) (k .j) lj (k .out) (k .inv .1) _ (d .known-place .ensures) (w .0 .left) (c .if1 .out) (w .1))
     (c .if1 .came) in
     (search needs, n)
 

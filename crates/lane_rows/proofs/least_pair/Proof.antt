@@ -2,7 +2,6 @@
 use mathlib.Core.Path.{_≡_, _∙_}
 use mathlib.Core.Bool.{Bool}
 use Prim.Native.Nat.{ℕ, _-_, _≤_, _<_, min}
-use native.Mathlib.Omega.{arith}
 use Rattle.folds.specs.Rows.{cell, leastTo}
 use Rattle.lane.specs.Lanes.{laneCosts}
 use Rattle.lane_rows.proofs.Rows.{least-first, least-next}

@@ -1,7 +1,6 @@
 -- `lane_rows::least_three` meets its contract: the first l lanes have the least ones. Assumes nothing.
 use mathlib.Core.Path.{_≡_, ap₂, _∙_}
 use Prim.Native.Nat.{_-_, _≤_, min}
-use native.Mathlib.Omega.{arith}
 use Rattle.folds.specs.Rows.{cell}
 use Rattle.folds.proofs.Fill.{Filled, filled-none, fill-both}
 use borrow.Author.Needs.{needs}

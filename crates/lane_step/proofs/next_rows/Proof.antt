@@ -1,13 +1,10 @@
 -- `lane_step::next_rows` meets its contract. Assumes nothing.
 use mathlib.Core.Path.{_≡_, refl, sym, ap, _∙_}
-use mathlib.Core.List.{List, []}
-use Prim.Native.Nat.{ℕ, _+_, _-_, _≤_, _<_}
 use native.Mathlib.Omega.{arith}
 use borrow.Author.Tests.{lt-ltb}
 use lib.ListN.{getD}
-use Rattle.windows.specs.Tables.{shapeTable, shapeAt}
+use Rattle.windows.specs.Tables.{shapeAt}
 use Rattle.windows.proofs.Stepping.{in-range}
-use Rattle.lane.specs.Lanes.{LanesWithin}
 use Rattle.lane_nodes.proofs.Places.{none-within}
 use Rattle.lane_step.proofs.Fresh.{free-rounds, known-rounds}
 use Rattle.lane_step.proofs.Stepping.{fresh-lanes, again-late, again-few, again-small-lane, again-lanes}
@@ -72,7 +69,7 @@ returns-2 c = let w = c .before .before .before in
 
 known-eight-requires : tie.Need-known-eight-requires
 known-eight-requires c κs = let p = c .before .before .before .before .before .pre in
-    (p .0 .2, λ j lj l b ll. omega (arith, p .1 .1 .0 .0 j lj l b ll), refl, none-within)
+    (p .0 .2, λ j lj l b ll. omega (arith, p .1 .1 .0 .0 j lj l b ll), refl)
 
 all-paths-requires-2 : tie.Need-all-paths-requires-2
 all-paths-requires-2 c κs = let k = c .before .before in
@@ -80,7 +77,7 @@ all-paths-requires-2 c κs = let k = c .before .before in
     let a = s .args in
     let p = s .pre in
     let r = in-range (a .kernel) (a .phase) (p .0 .0) (p .0 .1) 0 (a .t3) (p .1 .0 .0) in
-    (p .0 .2, r .0, r .1, r .2, λ j lj l b ll. omega (arith, k .known-eight .ensures .1 .1 2047 (p .1 .1 .0 .0) j lj l b ll), p .1 .1 .1 .0)
+    (p .0 .2, r .0, r .1, r .2, λ j lj l b ll. omega (arith, k .known-eight .ensures .1 .1 2047 (p .1 .1 .0 .0) (none-within 4094) j lj l b ll), p .1 .1 .1 .0)
 
 returns-3 : tie.Need-returns-3
 returns-3 c = let k = c .before .before .before in
