@@ -2,11 +2,11 @@
 use mathlib.Core.Path.{_≡_, refl, sym, ap, ap₂, _∙_, subst}
 use mathlib.Core.Bool.{Bool, true, false}
 use mathlib.Core.List.{List, [], _++_, append-nil}
-use Prim.Native.Nat.{ℕ, zero, suc, _*_, _/_, _%_, _≤_, _<_}
+use Prim.Native.Nat.{ℕ, _*_, _/_, _%_, _≤_, _<_}
 use native.Mathlib.Omega.{arith}
 use borrow.Author.Tests.{not-false, eqb-true, ltb-false}
 use lib.IntN.{ℤ}
-use lib.ListN.{length, getD, drop, take, replicate}
+use lib.ListN.{length, drop, take, replicate, getD-replicate}
 use Rattle.base.specs.Bit.{bit}
 use Rattle.base.proofs.Bool.{or-eq-false}
 use Rattle.base.proofs.List.{tabulate-at}
@@ -37,18 +37,12 @@ inside-all : (values : List ℤ) → length values ≡ 256 → (valueCheck value
 unfolding valueCheck
 inside-all values e h = omega (arith, ltb-false (firstOutside 127 values) (length values) h, outside-le 127 values)
 
--- A table of zeros.
-zeros-at : (n j : ℕ) → _≡_ {A = ℕ} (getD (replicate n 0) j 0) 0
-zeros-at zero j = refl
-zeros-at (suc n) zero = refl
-zeros-at (suc n) (suc j) = zeros-at n j
-
 -- Rows of zeros have no bit set.
 no-bits : (i : ℕ) → i < 256 → bit (rowsBits (replicate 16 0)) i ≡ false
 unfolding rowsBits
 no-bits i l =
     tabulate-at 256 (λ i. rowBit (replicate 16 0) (i / 16) (i % 16)) i false l
-    ∙ ap (λ x. bit (bits 16 x) (i % 16)) (zeros-at 16 (i / 16)) ∙ zero-at 16 (i % 16)
+    ∙ ap (λ x. bit (bits 16 x) (i % 16)) (getD-replicate 16 (i / 16) 0 0 (omega arith)) ∙ zero-at 16 (i % 16)
 
 -- ---- frame follow
 

@@ -22,7 +22,8 @@ fn some_outside(values: &[i8]) -> bool
     found
 }
 
-// The lowest index whose value lies outside -127 to 127, or 256. It is searched block by block where there is one, which is seldom.
+// The lowest index whose value lies outside -127 to 127, or 256. Where there is such a value, which is seldom, it is searched
+// block by block; the last line is then not reached.
 fn frame_outside(values: &[i8]) -> usize
     requires { ⌜ length (now values) ≡ 256 ⌝ }
     ensures { λ r. ⌜ r ≡ firstOutside 127 (now (values .entry)) ⌝ }

@@ -19,7 +19,7 @@ use Rattle.lane.specs.Lanes.{laneCosts}
 use Rattle.run.proofs.Phases.{score-cong}
 
 -- A kernel as a matrix and by its relations has the same leasts,
-pub code-least : (k : ℕ) (m : Costs) (p : List Bool) → length p ≤ 16 → least (code (kernel k)) m p ≡ least (kernelCode k) m p
+code-least : (k : ℕ) (m : Costs) (p : List Bool) → length p ≤ 16 → least (code (kernel k)) m p ≡ least (kernelCode k) m p
 unfolding least total
 code-least k m p l = minimum-cong (16 - length p) (λ t e. sum-cong 16 (λ i _. ap (m i) (code-word k (p ++ t) (length-append p t ∙ omega arith) i)))
 

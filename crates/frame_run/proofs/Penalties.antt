@@ -12,7 +12,7 @@ use Rattle.base.specs.Bit.{bit, tabulate}
 use Rattle.base.proofs.List.{length-tabulate, tabulate-at, tabulate-cong, tabulate-append, paste-one}
 use Rattle.polar.specs.Code.{Code, Costs, pay, channel, sum, least, score}
 use Rattle.polar.specs.Follow.{scores, penalties}
-use Rattle.polar.proofs.Minima.{sum-cong, sum-append, sum-next, quot, rest}
+use Rattle.polar.proofs.Minima.{sum-cong, sum-append, sum-next, sum-part, quot, rest}
 use Rattle.polar.proofs.Least.{channel-nil}
 use Rattle.polar.proofs.Frame.{frame-onto}
 use Rattle.polar.proofs.Follow.{penalty-sum}
@@ -26,11 +26,6 @@ use Rattle.frame_run.specs.Run.{front, paidAt, FrameRun}
 use Rattle.frame_run.proofs.Prefixes.{length-front, front-all}
 use Rattle.frame_run.proofs.Premises.{penalty-small}
 use Rattle.frame_run.proofs.Rows.{AfterRows, paste-next}
-
--- A sum of nothing.
-pub sum-none : (f : ℕ → ℕ) → sum 0 f ≡ 0
-unfolding sum
-sum-none f = refl
 
 -- The sums of a row, counted on from start.
 abbrev pub rowSums : List ℕ → ℕ → List ℕ
@@ -73,19 +68,19 @@ module _ (paid : List (List ℕ)) (r : ℕ) where
       ap₂ (λ q s. getD (getD paid q []) s 0) (ap (λ i. i / 16) e ∙ quot 16 r j l) (ap (λ i. i % 16) e ∙ rest 16 r j l)
 
   -- What a row's first n phases add.
-  pub row-sum : (n : ℕ) → n ≤ 16 → sum (r * 16 + n) (paidAt paid) ≡ sum (r * 16) (paidAt paid) + sum n (λ j. getD (getD paid r []) j 0)
-  row-sum n l = sum-append (r * 16) n (paidAt paid) ∙ ap (λ x. sum (r * 16) (paidAt paid) + x) (sum-cong n (λ j lj. paid-in j (omega arith)))
+  row-adds : (n : ℕ) → n ≤ 16 → sum (r * 16 + n) (paidAt paid) ≡ sum (r * 16) (paidAt paid) + sum n (λ j. getD (getD paid r []) j 0)
+  row-adds n l = sum-append (r * 16) n (paidAt paid) ∙ ap (λ x. sum (r * 16) (paidAt paid) + x) (sum-cong n (λ j lj. paid-in j (omega arith)))
 
-  -- They are few where all are, counted on from no more than what the rows before add.
-  pub row-small : (start n : ℕ) → start ≤ sum (r * 16) (paidAt paid) → n ≤ 16 → sum (r * 16 + n) (paidAt paid) ≤ 65535 → start + sum n (λ j. getD (getD paid r []) j 0) ≤ 65535
-  row-small start n h l m = omega (arith, row-sum n l)
+  -- It is small where the sum of all rows is, counted on from no more than what the rows before add.
+  pub row-small : (start : ℕ) → r < 16 → start ≤ sum (r * 16) (paidAt paid) → sum 256 (paidAt paid) ≤ 65535 → start + sum 16 (λ j. getD (getD paid r []) j 0) ≤ 65535
+  row-small start l h m = omega (arith, row-adds 16 (omega arith), sum-part (r * 16 + 16) 256 (paidAt paid) (omega arith))
 
   module _ (start : ℕ) (is : start ≡ sum (r * 16) (paidAt paid)) where
     -- The last sum of a row.
     pub last-sum : (x : ℕ) → x ≡ start + sum 16 (λ j. getD (getD paid r []) j 0) → x ≡ sum ((r + 1) * 16) (paidAt paid)
     last-sum x e =
         let more : r * 16 + 16 ≡ (r + 1) * 16 = omega arith in
-        omega (arith, e, is, row-sum 16 (omega arith), ap (λ n. sum n (paidAt paid)) more)
+        omega (arith, e, is, row-adds 16 (omega arith), ap (λ n. sum n (paidAt paid)) more)
 
     -- A row's sums written behind those of the rows before.
     pub sums-next : (old new next : List ℕ) → new ≡ tabulate (r * 16) (λ i. sum (suc i) (paidAt paid)) ++ drop (r * 16) old
@@ -95,7 +90,7 @@ module _ (paid : List (List ℕ)) (r : ℕ) where
         let row : List ℕ = rowSums (getD paid r []) start in
         let same : row ≡ tabulate 16 (λ i. G (r * 16 + i)) = tabulate-cong 16 (λ i l.
         let k : suc (r * 16 + i) ≡ r * 16 + suc i = omega arith in
-        ap (λ x. x + sum (suc i) (λ j. getD (getD paid r []) j 0)) is ∙ sym (ap (λ n. sum n (paidAt paid)) k ∙ row-sum (suc i) (omega arith))) in
+        ap (λ x. x + sum (suc i) (λ j. getD (getD paid r []) j 0)) is ∙ sym (ap (λ n. sum n (paidAt paid)) k ∙ row-adds (suc i) (omega arith))) in
         let more : r * 16 + 16 ≡ (r + 1) * 16 = omega arith in
         f ∙ ap (λ (l : List ℕ). paste l (r * 16) row 16) e
         ∙ paste-next (tabulate (r * 16) G) row old (r * 16) (length-tabulate (r * 16) G) (length-tabulate 16 _)
@@ -117,10 +112,10 @@ module _ (a b : ℕ) (ys : List ℤ) (costs : List (List (List ℕ))) (free give
   pays : (i : ℕ) → i < length (front r symbols) → paidAt paid i ≡ pay (score (frameCode a b) (channel ys) (take i (front r symbols))) (bit (front r symbols) i)
   pays i l = g .paid-so i (omega (arith, long))
 
-  -- No sum is large,
-  pub sums-small : firstOutside 127 ys ≡ length ys → (n : ℕ) → n ≤ 256 → sum n (paidAt paid) ≤ 65535
-  sums-small inside n l =
-      omega (arith, sum-is (frameCode a b) (channel ys) none (front r symbols) (omega (arith, long)) (paidAt paid) pays n (omega (arith, long)), penalty-small a b ys inside (take n (front r symbols)))
+  -- Their sum is small,
+  pub sums-small : firstOutside 127 ys ≡ length ys → sum 256 (paidAt paid) ≤ 65535
+  sums-small inside =
+      omega (arith, sum-is (frameCode a b) (channel ys) none (front r symbols) (omega (arith, long)) (paidAt paid) pays 256 (omega (arith, long)), penalty-small a b ys inside (take 256 (front r symbols)))
 
   -- and the sums are the penalties of a whole run.
   pub all-rows : (oldPenalties newPenalties : List ℕ) → newPenalties ≡ tabulate 256 (λ i. sum (suc i) (paidAt paid)) ++ drop 256 oldPenalties

@@ -2,7 +2,7 @@
 use mathlib.Core.Path.{_≡_, refl, sym, ap, ap₂, _∙_, subst⁻¹}
 use mathlib.Core.Bool.{Bool, false}
 use mathlib.Core.List.{List, [], _∷_, _++_}
-use Prim.Native.Nat.{ℕ, suc, _+_, _-_, _*_, _/_, _%_, _≤_, _<_}
+use Prim.Native.Nat.{ℕ, _+_, _-_, _*_, _/_, _%_, _≤_, _<_}
 use native.Mathlib.Numerals.{add-one}
 use native.Mathlib.Decide.{decLt}
 use native.Mathlib.Omega.{arith}
@@ -18,7 +18,6 @@ use Rattle.polar.specs.Follow.{scores}
 use Rattle.polar.specs.Kernel.{code}
 use Rattle.polar.specs.Stages.{rows, column, block}
 use Rattle.polar.proofs.Follow.{scores-at, length-scores}
-use Rattle.folds.specs.Rows.{rowOf}
 use Rattle.kernel.specs.Kernels.{kernel, kernelCode}
 use Rattle.frame.specs.Frames.{frameCode}
 use Rattle.run.specs.Run.{symbolBy, SymbolsBy, KernelRun}

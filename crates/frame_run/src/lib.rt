@@ -71,7 +71,7 @@ fn store_narrow_scores(found: [i32; 16], at: usize, out: &mut [i16])
 
 // Adds up what the phases of a row pay, counted on from start, writes each sum from a place on, and hands back the last one.
 fn add_row(paid: &[u32; 16], start: u32, at: usize, out: &mut [u16]) -> u32
-    requires { ⌜ (at + 16 ≤ length (now out)) × ((n : ℕ) → n ≤ 16 → start + sum n (λ j. getD (now paid) j 0) ≤ 65535) ⌝ }
+    requires { ⌜ (at + 16 ≤ length (now out)) × (start + sum 16 (λ j. getD (now paid) j 0) ≤ 65535) ⌝ }
     ensures sums { λ _. ⌜ now (out .exit) ≡ paste (now (out .entry)) at (tabulate 16 (λ i. start + sum (suc i) (λ j. getD (now (paid .entry)) j 0))) 16 ⌝ }
     ensures last { λ r. ⌜ r ≡ start + sum 16 (λ j. getD (now (paid .entry)) j 0) ⌝ }
 {
@@ -87,7 +87,7 @@ fn add_row(paid: &[u32; 16], start: u32, at: usize, out: &mut [u16]) -> u32
 
 // Writes the penalty of each phase: what all phases up to it pay, added up row by row.
 fn add_up(paid: &[[u32; 16]; 16], out: &mut [u16])
-    requires { ⌜ (256 ≤ length (now out)) × ((n : ℕ) → n ≤ 256 → sum n (paidAt (now paid)) ≤ 65535) ⌝ }
+    requires { ⌜ (256 ≤ length (now out)) × (sum 256 (paidAt (now paid)) ≤ 65535) ⌝ }
     ensures { λ _. ⌜ now (out .exit) ≡ tabulate 256 (λ i. sum (suc i) (paidAt (now (paid .entry)))) ++ drop 256 (now (out .entry)) ⌝ }
 {
     let mut penalty: u32 = 0;
@@ -99,8 +99,8 @@ fn add_up(paid: &[[u32; 16]; 16], out: &mut [u16])
 }
 
 // The run of a frame: at each row the outer kernels' scores are the inner kernel's values, and the word of its symbols goes
-// back to them. A symbol is the sign of its score where it is free, else the one that is given. What the phases pay is added up
-// after the last row: kept in a table until then, it is made in vectors.
+// back to them. A symbol is the sign of its score where it is free, else the one that is given. What the phases pay is kept in a
+// table and added up after the last row; so the compiler makes vectors of it.
 pub fn frame_run(
     inner: usize,
     outer: usize,

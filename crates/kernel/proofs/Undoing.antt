@@ -9,10 +9,10 @@ use Rattle.base.proofs.List.{length-tabulate}
 use Rattle.bits.specs.Packed.{bits, number}
 use Rattle.bits.proofs.Packed.{length-bits, bits-number, number-bits-fit}
 use Rattle.answer.specs.Verdict.{word, wordOf}
-use Rattle.polar.specs.Code.{Code, Onto, UndoneBy}
+use Rattle.polar.specs.Code.{Code, UndoneBy}
 use Rattle.polar.specs.Kernel.{code}
 use Rattle.polar.specs.Relation.{symbols, tied}
-use Rattle.polar.proofs.Undo.{undo-onto, length-symbols-in, symbols-of-word, word-of-symbols}
+use Rattle.polar.proofs.Undo.{length-symbols-in, symbols-of-word, word-of-symbols}
 use Rattle.polar.proofs.Relation.{symbols-tied, length-tied, one-v, word-symbols, word-rows, unrelated, related-undo, related-redo}
 use Rattle.kernel.specs.Kernels.{F, relations, wordBit, kernelCode, wordSymbols, kernel}
 use Rattle.kernel.specs.Jobs.{isKernel, checks, encodedWord, undoneSymbols, kernelEncode, kernelUndo}
@@ -46,10 +46,6 @@ module _ (k : ℕ) where
   -- and that it undoes.
   redoes : UndoneBy unkernel (kernelCode k)
   redoes = related-redo 16 F F (relations k) (solved k) (solution k)
-
-  -- Every choice of sixteen bits is a word.
-  pub kernel-code-onto : Onto (kernelCode k)
-  kernel-code-onto = undo-onto (kernelCode k) unkernel redoes
 
   fits : (l : List Bool) → length l ≡ 16 → bits 16 (number l) ≡ l
   fits l e = ap (λ n. bits n (number l)) (sym e) ∙ bits-number l

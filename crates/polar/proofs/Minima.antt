@@ -2,7 +2,7 @@
 use mathlib.Core.Path.{_≡_, refl, ap, ap₂, _∙_}
 use mathlib.Core.Bool.{Bool, true, false}
 use mathlib.Core.List.{List, [], _∷_, _++_}
-use Prim.Native.Nat.{ℕ, zero, suc, _+_, _*_, _/_, _%_, _≤_, _<_, min}
+use Prim.Native.Nat.{ℕ, zero, suc, _+_, _-_, _*_, _/_, _%_, _≤_, _<_, min}
 use native.Mathlib.Nat.{suc-add, zero-add, le-refl, zero-mul, suc-mul, mul-zero, mul-suc, add-comm, add-zero, mul-add-div, mul-add-mod-self-left, div-eq-of-lt, mod-eq-of-lt}
 use native.Mathlib.Decide.{decLe}
 use native.Mathlib.Omega.{arith}
@@ -67,10 +67,21 @@ unfolding sum
 sum-append zero l f = simp zero-add
 sum-append (suc k) l f = simp suc-add (omega (arith, sum-append k l (λ i. f (suc i))))
 
--- A sum with its last part.
+-- A sum of nothing,
+pub sum-none : (f : ℕ → ℕ) → sum 0 f ≡ 0
+unfolding sum
+sum-none f = refl
+
+-- and one with its last part.
 pub sum-next : (n : ℕ) (f : ℕ → ℕ) → sum (n + 1) f ≡ sum n f + f n
 unfolding sum
 sum-next n f = rw (sum-append n 1 f, add-zero n, add-zero (f n))
+
+-- A part of a sum is no more than the sum.
+pub sum-part : (n k : ℕ) (f : ℕ → ℕ) → n ≤ k → sum n f ≤ sum k f
+sum-part n k f l =
+    let e : k ≡ n + (k - n) = omega arith in
+    omega (arith, ap (λ m. sum m f) e, sum-append n (k - n) f)
 
 -- k blocks of w.
 pub sum-blocks : (k w : ℕ) (f : ℕ → ℕ) → sum (k * w) f ≡ sum k (λ j. sum w (λ t. f (w * j + t)))

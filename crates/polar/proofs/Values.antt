@@ -1,7 +1,7 @@
 -- Costs as channel values: the layer theorem in scores alone, the running penalty, and how far scores go. Assumes nothing.
 use mathlib.Core.Path.{_≡_, sym, ap, ap₂, _∙_, fun-ext}
 use mathlib.Core.Bool.{Bool, true, false}
-use mathlib.Core.List.{List, [], _∷_, _++_, append-assoc, append-nil}
+use mathlib.Core.List.{List, [], _∷_, _++_, append-assoc}
 use Prim.Native.Nat.{ℕ, _+_, _*_, _/_, _≤_, _<_, min}
 use native.Mathlib.Decide.{decLt}
 use native.Mathlib.Omega.{arith}
@@ -11,7 +11,7 @@ use lib.IntN.{ℤ, pos, negsuc, natAbs, subℕ}
 use Rattle.polar.specs.Code.{Code, Costs, pay, channel, sum, total, least, score, Onto}
 use Rattle.polar.specs.Stages.{rows, column, staged, block, pairs, soft}
 use Rattle.polar.proofs.Minima.{minimum-cong, minimum-shift, sum-cong, sum-add, sum-const}
-use Rattle.polar.proofs.Least.{score-least, least-free, least-step, least-sum}
+use Rattle.polar.proofs.Least.{score-least, least-step, least-sum}
 use Rattle.polar.proofs.Layer.{Parted, parted, layer}
 
 -- The score after whole rows u and a part p of the next is the inner code's, over the pairs.
@@ -68,18 +68,10 @@ score-values C m p =
     ∙ sym (score-least C (values m) p)
 
 -- The value of what the outer code asks for a place is the outer score there.
-pub value-pairs : (A B : Code) (m : Costs) (U : List (List Bool)) (j : ℕ)
+value-pairs : (A B : Code) (m : Costs) (U : List (List Bool)) (j : ℕ)
     → value (pairs A B m U j) ≡ score B (block (B .places) m j) (column A U j)
 unfolding pairs
 value-pairs A B m U j = sym (score-least B (block (B .places) m j) (column A U j))
-
--- A row adds to the penalty what the inner code pays over those values.
-pub penalty-values : (A B : Code) → Onto A → (m : Costs) (r : ℕ) (u p : List Bool) → length u ≡ r * A .size → r < B .size → length p ≤ A .size
-    → least (staged A B) m (u ++ p) ≡ least (staged A B) m u + least A (values (pairs A B m (rows (A .size) r u))) p
-penalty-values A B onto m r u p e lr lp =
-    let d = pairs A B m (rows (A .size) r u) in
-    let base = (rw append-nil at (layer A onto B m r u [] e lr (omega arith))) ∙ least-free A onto d in
-    layer A onto B m r u p e lr lp ∙ least-values A d p ∙ ap (λ x. x + least A (values d) p) (sym base)
 
 -- One more symbol adds what the score at its phase pays for it: penalties follow from scores alone.
 pub penalty-next : (C : Code) (m : Costs) (p : List Bool) (b : Bool) → length p < C .size

@@ -1,7 +1,7 @@
 // One run of a kernel: its sixteen phases in order, each symbol given or free.
 ghost use mathlib.Core.Path.{_≡_};
 ghost use mathlib.Core.List.{[]};
-ghost use Prim.Native.Nat.{_≤_, _<_};
+ghost use Prim.Native.Nat.{_<_};
 ghost use lib.ListN.{length, getD};
 ghost use Rattle.base.specs.Bit;
 ghost use Rattle.bits.specs.Packed.{bits};

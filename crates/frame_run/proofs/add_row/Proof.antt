@@ -5,7 +5,8 @@ use native.Mathlib.Omega.{arith}
 use lib.ListN.{length, getD}
 use lib.Seq.{paste, paste-zero}
 use Rattle.polar.specs.Code.{sum}
-use Rattle.frame_run.proofs.Penalties.{rowSums, sum-none, next-sum, next-stored}
+use Rattle.polar.proofs.Minima.{sum-none, sum-part}
+use Rattle.frame_run.proofs.Penalties.{rowSums, next-sum, next-stored}
 use borrow.Author.Needs.{needs}
 use Rattle.frame_run.proofs.add_row.Statement.{statement}
 use Rattle.frame_run.proofs.add_row.Tie as tie
@@ -32,7 +33,7 @@ small c =
     let z = c .before .before .before in
     let k = c .before .before .loop in
     let e : k .i + 1 ≤ 16 = search needs in
-    omega (arith, next-sum (z .args .paid .now) (z .args .start) (k .i) (k .penalty) (k .inv .2), z .pre .1 (k .i + 1) e)
+    omega (arith, next-sum (z .args .paid .now) (z .args .start) (k .i) (k .penalty) (k .inv .2), z .pre .1, sum-part (k .i + 1) 16 (λ j. getD (z .args .paid .now) j 0) e)
 
 add-penalty : tie.Need-add-penalty Inv-loop μ-loop
 add-penalty c = omega (arith, small c)

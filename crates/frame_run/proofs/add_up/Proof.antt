@@ -6,8 +6,9 @@ use native.Mathlib.Omega.{arith}
 use lib.ListN.{length, drop}
 use Rattle.base.specs.Bit.{tabulate}
 use Rattle.polar.specs.Code.{sum}
+use Rattle.polar.proofs.Minima.{sum-none}
 use Rattle.frame_run.specs.Run.{paidAt}
-use Rattle.frame_run.proofs.Penalties.{sum-none, sums-none, row-small, last-sum, sums-next}
+use Rattle.frame_run.proofs.Penalties.{sums-none, row-small, last-sum, sums-next}
 use borrow.Author.Needs.{needs}
 use Rattle.frame_run.proofs.add_up.Statement.{statement}
 use Rattle.frame_run.proofs.add_up.Tie as tie
@@ -36,7 +37,7 @@ add-row-requires c κs =
     let k = c .before .before .before .loop in
     let z = c .before .before .before .before .before in
     let l : k .r < 16 = search needs in
-    (omega (arith, k .inv .1, z .pre .0, l), λ n ln. row-small (z .args .paid .now) (k .r) _ n (omega (arith, k .inv .2)) ln (z .pre .1 (k .r * 16 + n) (omega arith)))
+    (omega (arith, k .inv .1, z .pre .0, l), row-small (z .args .paid .now) (k .r) _ l (omega (arith, k .inv .2)) (z .pre .1))
 
 add-r : tie.Need-add-r Inv-loop μ-loop
 add-r c = search needs

@@ -2,24 +2,17 @@
 -- they pay is held. Assumes nothing.
 use mathlib.Core.Path.{_≡_, refl, sym, ap, _∙_}
 use mathlib.Core.List.{List, []}
-use Prim.Native.Nat.{ℕ, _+_, _-_, _*_, _≤_, _<_}
+use Prim.Native.Nat.{ℕ, _+_, _-_, _*_, _<_}
 use native.Mathlib.Omega.{arith}
-use lib.IntN.{pos}
 use lib.ListN.{length, getD}
 use Rattle.base.specs.Bit.{bit}
 use Rattle.bits.specs.Packed.{bits}
-use Rattle.polar.specs.Code.{score}
 use Rattle.folds.specs.Range.{valueLimit, firstOutside}
 use Rattle.folds.proofs.Limit.{frame-inside}
 use Rattle.folds.proofs.Range.{outside-wider}
-use Rattle.kernel.specs.Kernels.{kernelCode}
 use Rattle.kernel.specs.Rows.{rowSum}
 use Rattle.grid.specs.Grid.{rowsBits}
 use Rattle.grid.proofs.Grid.{rows-bits-at}
-use Rattle.windows.proofs.Stepping.{in-range}
-use Rattle.lane.specs.Lanes.{laneCosts}
-use Rattle.lane_phases.specs.Rows.{column}
-use Rattle.frame_run.specs.Run.{front}
 use Rattle.frame_run.proofs.Rows.{AfterRows, no-row, row-turn}
 use Rattle.frame_run.proofs.Premises.{word-of, lanes-wider, outer-inside, narrow-scores}
 use Rattle.frame_run.proofs.Penalties.{sums-small, all-rows}
