@@ -28,7 +28,7 @@
  * The library is built for x86-64 Linux, because that is what the kit that
  * proves it compiles for. Firmware on another processor needs the kit's back
  * end for that processor. On x86-64 frame follow and frame decode take at most
- * 10.4 KiB of stack, kernel follow 4.4 KiB, and 2.4 KiB by the Hadamard engine
+ * 10.8 KiB of stack, kernel follow 4.3 KiB, and 2.4 KiB by the Hadamard engine
  * (measured, not proved; see docs/BENCH.md).
  *
  * What the caller must keep, and nothing proves or looks at:
