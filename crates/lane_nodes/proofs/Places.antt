@@ -14,15 +14,15 @@ use Rattle.base.proofs.List.{each-next}
 use Rattle.bits.proofs.Packed.{xor-at}
 use Rattle.polar.specs.Code.{Costs}
 use Rattle.polar.specs.Fold.{freeFold, knownFold}
-use Rattle.folds.specs.Rows.{cell, Pays}
+use Rattle.folds.specs.Rows.{cell}
 use Rattle.folds.proofs.Fill.{filled-none}
 use Rattle.folds.proofs.Pairs.{free-le, known-le}
 use Rattle.lane.specs.Lanes.{laneBit, wordAt, laneCosts, PairWithin, LanesWithin}
 use Rattle.lane.proofs.Planes.{all-lanes}
 
--- What a place pays is within a bound of its costs.
-pub pays-within : (m : Costs) (j x y n : ℕ) → ((b : Bool) → m j b ≤ n) → Pays m j x y → (x ≤ n) × (y ≤ n)
-pays-within m j x y n h p = (omega (arith, p .0, h false), omega (arith, p .1, h true))
+-- What is read of a place, in any lane, is within its bound.
+pub read-within : (n : ℕ) (pair : List (List ℕ)) (l x y : ℕ) → (x ≡ cell 0 pair l false) × (y ≡ cell 0 pair l true) → PairWithin n pair → l < 16 → (x ≤ n) × (y ≤ n)
+read-within n pair l x y e w ll = (omega (arith, e .0, w l false ll), omega (arith, e .1, w l true ll))
 
 -- ---- folds in all lanes
 

@@ -37,7 +37,8 @@ fn path_word(table: &[u16; 16], symbols: u16, phase: usize, window: usize, high:
     kernel::row_sum(rows, x as u16) as u32
 }
 
-// The same with symbol 1: the phase's own row is added.
+// The same with symbol 1: the phase's own row is added. It hands on the row's range, which one copied out of a lent table comes
+// without.
 fn with_own(word: u32, row: u16) -> u32
     ensures { λ r. ⌜ (r ≡ bitXor word row) × (row < 65536) ⌝ }
 {

@@ -7,7 +7,7 @@ use Rattle.polar.specs.Fold.{freeFold}
 use Rattle.folds.proofs.Fill.{Filled, filled-none, fill-both}
 use Rattle.folds.proofs.Pairs.{free-pays}
 use Rattle.lane.specs.Lanes.{laneCosts}
-use Rattle.lane_nodes.proofs.Places.{pays-within}
+use Rattle.lane_nodes.proofs.Places.{read-within}
 use Rattle.lane_nodes.proofs.free_place.Statement.{statement}
 use Rattle.lane_nodes.proofs.free_place.Tie as tie
 
@@ -28,12 +28,9 @@ at-requires-2 c κs = search needs
 
 free-requires : tie.Need-free-requires Inv-loop μ-loop
 free-requires c κs =
-    let k = c .before .before .before .loop in
     let s = c .before .before .before .before in
-    let m = laneCosts (s .args .p .now ∷ s .args .q .now ∷ []) (k .l) in
-    let ll : k .l < 16 = search needs in
-    let p = pays-within m 0 _ _ 16383 (λ b. s .pre .0 (k .l) b ll) (c .before .at .ensures) in
-    let q = pays-within m 1 _ _ 16383 (λ b. s .pre .1 (k .l) b ll) (c .at2 .ensures) in
+    let p = read-within 16383 (s .args .p .now) _ _ _ (c .before .at .ensures) (s .pre .0) (search needs) in
+    let q = read-within 16383 (s .args .q .now) _ _ _ (c .at2 .ensures) (s .pre .1) (search needs) in
     (p .0, p .1, q .0, q .1)
 
 mul-out : tie.Need-mul-out Inv-loop μ-loop
