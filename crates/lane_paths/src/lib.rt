@@ -10,6 +10,11 @@ ghost use Rattle.folds.specs.Rows.{cell};
 ghost use Rattle.lane.specs.Lanes.{laneBits, laneBit, wordAt, nodeCosts, LanesWithin};
 ghost use Rattle.lane_paths.specs.Places.{twoCosts};
 use lane::Pair;
+use lane::at;
+use lane::free;
+use lane::has;
+use lane::known;
+use lane::turned;
 
 // The node of place j for a path.
 fn node(other: u16, j: usize) -> usize
@@ -45,14 +50,14 @@ fn free_free(
     let mut out = [[0u16; 16]; 4];
     let mut l: usize = 0;
     while l < 16 {
-        let p0 = lane::free(lane::at(&nodes[n0], l), lane::at(&nodes[n4], l));
-        let p2 = lane::free(lane::at(&nodes[n2], l), lane::at(&nodes[n6], l));
-        let even = lane::free(p0, p2);
+        let p0 = free(at(&nodes[n0], l), at(&nodes[n4], l));
+        let p2 = free(at(&nodes[n2], l), at(&nodes[n6], l));
+        let even = free(p0, p2);
         out[0][l] = even.zero;
         out[1][l] = even.one;
-        let p1 = lane::free(lane::at(&nodes[n1], l), lane::at(&nodes[n5], l));
-        let p3 = lane::free(lane::at(&nodes[n3], l), lane::at(&nodes[n7], l));
-        let odd = lane::free(p1, p3);
+        let p1 = free(at(&nodes[n1], l), at(&nodes[n5], l));
+        let p3 = free(at(&nodes[n3], l), at(&nodes[n7], l));
+        let odd = free(p1, p3);
         out[2][l] = odd.zero;
         out[3][l] = odd.one;
         l += 1;
@@ -85,14 +90,14 @@ fn free_known(
     let mut l: usize = 0;
     while l < 16 {
         let flag = flags[l];
-        let p0 = lane::free(lane::at(&nodes[n0], l), lane::at(&nodes[n4], l));
-        let p2 = lane::free(lane::at(&nodes[n2], l), lane::at(&nodes[n6], l));
-        let even = lane::known(lane::has(x, flag), p0, p2);
+        let p0 = free(at(&nodes[n0], l), at(&nodes[n4], l));
+        let p2 = free(at(&nodes[n2], l), at(&nodes[n6], l));
+        let even = known(has(x, flag), p0, p2);
         out[0][l] = even.zero;
         out[1][l] = even.one;
-        let p1 = lane::free(lane::at(&nodes[n1], l), lane::at(&nodes[n5], l));
-        let p3 = lane::free(lane::at(&nodes[n3], l), lane::at(&nodes[n7], l));
-        let odd = lane::known(lane::has(y, flag), p1, p3);
+        let p1 = free(at(&nodes[n1], l), at(&nodes[n5], l));
+        let p3 = free(at(&nodes[n3], l), at(&nodes[n7], l));
+        let odd = known(has(y, flag), p1, p3);
         out[2][l] = odd.zero;
         out[3][l] = odd.one;
         l += 1;
@@ -127,30 +132,14 @@ fn known_free(
     let mut l: usize = 0;
     while l < 16 {
         let flag = flags[l];
-        let p0 = lane::known(
-            lane::has(w0, flag),
-            lane::at(&nodes[n0], l),
-            lane::at(&nodes[n4], l),
-        );
-        let p2 = lane::known(
-            lane::has(w2, flag),
-            lane::at(&nodes[n2], l),
-            lane::at(&nodes[n6], l),
-        );
-        let even = lane::free(p0, p2);
+        let p0 = known(has(w0, flag), at(&nodes[n0], l), at(&nodes[n4], l));
+        let p2 = known(has(w2, flag), at(&nodes[n2], l), at(&nodes[n6], l));
+        let even = free(p0, p2);
         out[0][l] = even.zero;
         out[1][l] = even.one;
-        let p1 = lane::known(
-            lane::has(w1, flag),
-            lane::at(&nodes[n1], l),
-            lane::at(&nodes[n5], l),
-        );
-        let p3 = lane::known(
-            lane::has(w3, flag),
-            lane::at(&nodes[n3], l),
-            lane::at(&nodes[n7], l),
-        );
-        let odd = lane::free(p1, p3);
+        let p1 = known(has(w1, flag), at(&nodes[n1], l), at(&nodes[n5], l));
+        let p3 = known(has(w3, flag), at(&nodes[n3], l), at(&nodes[n7], l));
+        let odd = free(p1, p3);
         out[2][l] = odd.zero;
         out[3][l] = odd.one;
         l += 1;
@@ -187,30 +176,14 @@ fn known_known(
     let mut l: usize = 0;
     while l < 16 {
         let flag = flags[l];
-        let p0 = lane::known(
-            lane::has(w0, flag),
-            lane::at(&nodes[n0], l),
-            lane::at(&nodes[n4], l),
-        );
-        let p2 = lane::known(
-            lane::has(w2, flag),
-            lane::at(&nodes[n2], l),
-            lane::at(&nodes[n6], l),
-        );
-        let even = lane::known(lane::has(x, flag), p0, p2);
+        let p0 = known(has(w0, flag), at(&nodes[n0], l), at(&nodes[n4], l));
+        let p2 = known(has(w2, flag), at(&nodes[n2], l), at(&nodes[n6], l));
+        let even = known(has(x, flag), p0, p2);
         out[0][l] = even.zero;
         out[1][l] = even.one;
-        let p1 = lane::known(
-            lane::has(w1, flag),
-            lane::at(&nodes[n1], l),
-            lane::at(&nodes[n5], l),
-        );
-        let p3 = lane::known(
-            lane::has(w3, flag),
-            lane::at(&nodes[n3], l),
-            lane::at(&nodes[n7], l),
-        );
-        let odd = lane::known(lane::has(y, flag), p1, p3);
+        let p1 = known(has(w1, flag), at(&nodes[n1], l), at(&nodes[n5], l));
+        let p3 = known(has(w3, flag), at(&nodes[n3], l), at(&nodes[n7], l));
+        let odd = known(has(y, flag), p1, p3);
         out[2][l] = odd.zero;
         out[3][l] = odd.one;
         l += 1;
@@ -259,8 +232,8 @@ fn last_free(flags: &[u16; 16], own: u16, two: &[[u16; 16]; 4]) -> [[u16; 16]; 2
     let mut out = [[0u16; 16]; 2];
     let mut l: usize = 0;
     while l < 16 {
-        let last = lane::free(of_two(two, 0, l), of_two(two, 1, l));
-        let r = lane::turned(lane::has(own, flags[l]), last);
+        let last = free(of_two(two, 0, l), of_two(two, 1, l));
+        let r = turned(has(own, flags[l]), last);
         out[0][l] = r.zero;
         out[1][l] = r.one;
         l += 1;
@@ -277,8 +250,8 @@ fn last_known(flags: &[u16; 16], own: u16, plane: u16, two: &[[u16; 16]; 4]) -> 
     let mut l: usize = 0;
     while l < 16 {
         let flag = flags[l];
-        let last = lane::known(lane::has(plane, flag), of_two(two, 0, l), of_two(two, 1, l));
-        let r = lane::turned(lane::has(own, flag), last);
+        let last = known(has(plane, flag), of_two(two, 0, l), of_two(two, 1, l));
+        let r = turned(has(own, flag), last);
         out[0][l] = r.zero;
         out[1][l] = r.one;
         l += 1;
