@@ -3,7 +3,7 @@ use mathlib.Core.Path.{_≡_, refl, sym, ap, _∙_}
 use mathlib.Core.Bool.{Bool, true, false, false≢true}
 use mathlib.Core.List.{List, [], _∷_, _++_}
 use lib.ListN.{length, drop}
-use Rattle.answer.specs.Verdict.{Verdict, done, word, refused, isAccepted, Check, unless, settle, after}
+use Rattle.answer.specs.Verdict.{Verdict, done, word, penalty, refused, isAccepted, Check, unless, settle, after}
 
 -- None of the checks holds.
 abbrev pub None : List Check → Type 0
@@ -63,10 +63,12 @@ settle-stopped (c ∷ cs) v w a r = go (c .holds) r (settle-stopped cs v w a)
 pub after-refused {ℓ} : {X : Type ℓ} (v : Verdict) (old new : List X) → isAccepted v ≡ false → after v old new ≡ old
 after-refused done old new e = absurd (false≢true (sym e))
 after-refused (word w) old new e = absurd (false≢true (sym e))
+after-refused (penalty p) old new e = absurd (false≢true (sym e))
 after-refused (refused n i) old new e = refl
 
 -- An acceptance leaves the new part, and what lies past it.
 pub after-accepted {ℓ} : {X : Type ℓ} (v : Verdict) (old new : List X) → isAccepted v ≡ true → after v old new ≡ new ++ drop (length new) old
 after-accepted done old new e = refl
 after-accepted (word w) old new e = refl
+after-accepted (penalty p) old new e = refl
 after-accepted (refused n i) old new e = absurd (false≢true e)

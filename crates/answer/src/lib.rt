@@ -1,11 +1,12 @@
-// The one answer of all jobs, and its number, place and word.
+// The one answer of all jobs, and its number, place, word and penalty.
 ghost use mathlib.Core.Path.{_≡_};
-ghost use Rattle.answer.specs.Verdict.{verdict, isAccepted, numberOf, placeOf, wordOf};
+ghost use Rattle.answer.specs.Verdict.{verdict, isAccepted, numberOf, placeOf, wordOf, penaltyOf};
 
-// What a job answers: done, a word, or the condition that refused it, with its place where it names one.
+// What a job answers: done, a word, a penalty, or the condition that refused it, with its place where it names one.
 pub enum Answer {
     Done,
     Word(u16),
+    Penalty(u32),
     NoKernel,
     WrongLength,
     BadMask,
@@ -16,6 +17,9 @@ pub enum Answer {
     WrongSize,
     FrozenOne(usize),
     BadScale,
+    WrongListSize,
+    FewMarks,
+    NoAgreeingPath,
 }
 
 // The number of the condition that refused, 0 if accepted.
@@ -25,6 +29,7 @@ pub fn number(a: Answer) -> u8
     match a {
         Answer::Done => 0,
         Answer::Word(_) => 0,
+        Answer::Penalty(_) => 0,
         Answer::NoKernel => 1,
         Answer::WrongLength => 2,
         Answer::BadMask => 3,
@@ -35,6 +40,9 @@ pub fn number(a: Answer) -> u8
         Answer::WrongSize => 8,
         Answer::FrozenOne(_) => 9,
         Answer::BadScale => 10,
+        Answer::WrongListSize => 11,
+        Answer::FewMarks => 12,
+        Answer::NoAgreeingPath => 13,
     }
 }
 
@@ -52,6 +60,7 @@ pub fn place(a: Answer) -> usize
     match a {
         Answer::Done => 0,
         Answer::Word(_) => 0,
+        Answer::Penalty(_) => 0,
         Answer::NoKernel => 0,
         Answer::WrongLength => 0,
         Answer::BadMask => 0,
@@ -62,6 +71,9 @@ pub fn place(a: Answer) -> usize
         Answer::WrongSize => 0,
         Answer::FrozenOne(i) => i,
         Answer::BadScale => 0,
+        Answer::WrongListSize => 0,
+        Answer::FewMarks => 0,
+        Answer::NoAgreeingPath => 0,
     }
 }
 
@@ -72,6 +84,7 @@ pub fn word(a: Answer) -> u16
     match a {
         Answer::Done => 0,
         Answer::Word(w) => w,
+        Answer::Penalty(_) => 0,
         Answer::NoKernel => 0,
         Answer::WrongLength => 0,
         Answer::BadMask => 0,
@@ -82,5 +95,32 @@ pub fn word(a: Answer) -> u16
         Answer::WrongSize => 0,
         Answer::FrozenOne(_) => 0,
         Answer::BadScale => 0,
+        Answer::WrongListSize => 0,
+        Answer::FewMarks => 0,
+        Answer::NoAgreeingPath => 0,
+    }
+}
+
+// The penalty of an answer that has one, else 0.
+pub fn penalty(a: Answer) -> u32
+    ensures { λ r. ⌜ r ≡ penaltyOf (verdict a) ⌝ }
+{
+    match a {
+        Answer::Done => 0,
+        Answer::Word(_) => 0,
+        Answer::Penalty(p) => p,
+        Answer::NoKernel => 0,
+        Answer::WrongLength => 0,
+        Answer::BadMask => 0,
+        Answer::WrongPayload => 0,
+        Answer::ShortOutput => 0,
+        Answer::ValueOutOfRange(_) => 0,
+        Answer::NotFinite(_) => 0,
+        Answer::WrongSize => 0,
+        Answer::FrozenOne(_) => 0,
+        Answer::BadScale => 0,
+        Answer::WrongListSize => 0,
+        Answer::FewMarks => 0,
+        Answer::NoAgreeingPath => 0,
     }
 }

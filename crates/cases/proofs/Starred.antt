@@ -12,7 +12,7 @@ use lib.ListN.{length, getD, set, replicate}
 use Rattle.base.specs.Bit.{tabulate, parity, every}
 use Rattle.bits.specs.Packed.{bits, number, unpack, pack}
 use Rattle.bits.proofs.Packed.{length-bits, unpack-pack}
-use Rattle.answer.specs.Verdict.{Verdict, word, done, refused, isAccepted, settle, after}
+use Rattle.answer.specs.Verdict.{Verdict, word, penalty, done, refused, isAccepted, settle, after}
 use Rattle.polar.specs.Code.{channel}
 use Rattle.polar.specs.Follow.{scores}
 use Rattle.polar.specs.Kernel.{arikan}
@@ -72,12 +72,14 @@ list-eq f q (x ∷ s) (y ∷ t) e =
 unfoldable isRefusal : ℕ → ℕ → Verdict → Bool
 isRefusal n i done = false
 isRefusal n i (word w) = false
+isRefusal n i (penalty p) = false
 isRefusal n i (refused n′ i′) = eqb n′ n && eqb i′ i
 
 refusal-eq : (n i : ℕ) (v : Verdict) → isRefusal n i v ≡ true → v ≡ refused n i
 unfolding isRefusal
 refusal-eq n i done t = absurd (false≢true t)
 refusal-eq n i (word w) t = absurd (false≢true t)
+refusal-eq n i (penalty p) t = absurd (false≢true t)
 refusal-eq n i (refused n′ i′) t =
     let h = (and-eq-true-iff (eqb n′ n) (eqb i′ i)) .0 t in
     ap₂ refused (eqb-true n′ n (h .0)) (eqb-true i′ i (h .1))

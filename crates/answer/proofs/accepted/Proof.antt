@@ -2,7 +2,7 @@
 use mathlib.Core.Path.{_≡_, refl, ap, _∙_}
 use lib.Dec.{eqb}
 use Rattle.answer.specs.declared.Answer.{Answer}
-use Rattle.answer.specs.declared.Answer.the-variants.{Done, Word, NoKernel, WrongLength, BadMask, WrongPayload, ShortOutput, ValueOutOfRange, NotFinite, WrongSize, FrozenOne, BadScale}
+use Rattle.answer.specs.declared.Answer.the-variants.{Done, Word, Penalty, NoKernel, WrongLength, BadMask, WrongPayload, ShortOutput, ValueOutOfRange, NotFinite, WrongSize, FrozenOne, BadScale, WrongListSize, FewMarks, NoAgreeingPath}
 use Rattle.answer.specs.Verdict.{verdict, numberOf, isAccepted}
 use borrow.Author.Needs.{needs}
 use Rattle.answer.proofs.accepted.Statement.{statement}
@@ -11,6 +11,7 @@ use Rattle.answer.proofs.accepted.Tie as tie
 by-number : (a : Answer) → eqb (numberOf (verdict a)) 0 ≡ isAccepted (verdict a)
 by-number Done = refl
 by-number (Word w) = refl
+by-number (Penalty p) = refl
 by-number NoKernel = refl
 by-number WrongLength = refl
 by-number BadMask = refl
@@ -21,6 +22,9 @@ by-number (NotFinite i) = refl
 by-number WrongSize = refl
 by-number (FrozenOne i) = refl
 by-number BadScale = refl
+by-number WrongListSize = refl
+by-number FewMarks = refl
+by-number NoAgreeingPath = refl
 
 number-requires : tie.Need-number-requires
 number-requires c κs = search needs
