@@ -1,0 +1,4 @@
+pub mod Sort
+pub mod Order
+pub mod Phase
+pub mod Paths
