@@ -29,7 +29,7 @@ use Rattle.windows.proofs.Tables.{shaped, again}
 use Rattle.windows.proofs.Words.{pow-le}
 use Rattle.windows.proofs.Steps.{fresh-held, again-small, again-held, by-paths}
 use Rattle.lane.specs.Lanes.{laneBit, laneCosts}
-use Rattle.lane_phases.specs.Rows.{column, scoreRows, HeldLanes, KeptLanes}
+use Rattle.lane_phases.specs.Rows.{column, scoreRows, HeldLane, HeldLanes, KeptLane, KeptLanes}
 
 -- An entry of a lane's rows.
 pub score-cell : (rows : List (List (List ℕ))) (l w : ℕ) (b : Bool) → w < 16 → cell (pos 0) (scoreRows rows l) w b ≡ negℤ (pos (laneCosts rows l w b))
@@ -66,7 +66,7 @@ module _ (k s : ℕ) (lk : k < 3) (ls : s < 16) (costs : List (List (List ℕ)))
       → laneCosts rows l w b
       ≡ (let x = rowSum (pathRows k s) (choiceNumber (column planes s l) false (bits (shapeAt k s 0 - s) w)) in
       folded 4 (shapeAt k s 0) (bit (bits 16 x)) (laneCosts costs l) 0 (bit (bits 16 x) (shapeAt k s 0) ⊕ b)))
-      → Held k (laneCosts costs l) (column planes s l) (scoreRows rows l)
+      → HeldLane k costs planes s rows l
   fresh-lane f d rows h =
       fresh-held k s lk ls (laneCosts costs l) (column planes s l) long f (scoreRows rows l)
       (λ w b lw. score-cell rows l w b (narrow d w lw) ∙ ap (λ x. negℤ (pos x)) (h w b lw))
@@ -81,7 +81,7 @@ module _ (k s : ℕ) (lk : k < 3) (ls : s < 16) (costs : List (List (List ℕ)))
       → Kept k (laneCosts costs l) (column planes s l) (rowOf (scoreRows old l) c)
       → ((w : ℕ) (b : Bool) → w < 2 ^ (shapeAt k s 0 - s)
       → laneCosts rows l w b ≡ laneCosts old l (rowSum (pathRows k s) (choiceNumber (column planes s l) b (bits (shapeAt k s 0 - s) w))) c)
-      → Held k (laneCosts costs l) (column planes s l) (scoreRows rows l)
+      → HeldLane k costs planes s rows l
   again-lane f d old rows c kept h =
       again-held k s lk ls (laneCosts costs l) (column planes s l) long f (rowOf (scoreRows old l) c) kept (scoreRows rows l)
       (λ w b lw.
@@ -91,38 +91,45 @@ module _ (k s : ℕ) (lk : k < 3) (ls : s < 16) (costs : List (List (List ℕ)))
       ∙ ap (λ x. negℤ (pos x)) (h w b lw)
       ∙ sym (score-cell old l x c small))
 
-  -- The least of each row, and their difference, which is the score.
-  pub lane-score : (rows : List (List (List ℕ))) → shapeAt k s 0 - s ≤ 4 → Held k (laneCosts costs l) (column planes s l) (scoreRows rows l)
-      → subℕ (leastTo (λ w. laneCosts rows l w true) (2 ^ (shapeAt k s 0 - s) - 1)) (leastTo (λ w. laneCosts rows l w false) (2 ^ (shapeAt k s 0 - s) - 1))
-      ≡ score (kernelCode k) (laneCosts costs l) (column planes s l)
-  lane-score rows d h = ap₂ subℕ (row true) (row false) ∙ sym (score-least (kernelCode k) (laneCosts costs l) (column planes s l))
+  -- The least of row b is the least total with symbol b,
+  pub lane-least : (rows : List (List (List ℕ))) → shapeAt k s 0 - s ≤ 4 → HeldLane k costs planes s rows l → (b : Bool)
+      → leastTo (λ w. laneCosts rows l w b) (2 ^ (shapeAt k s 0 - s) - 1) ≡ least (kernelCode k) (laneCosts costs l) (column planes s l ++ (b ∷ []))
+  lane-least rows d h b =
+      let n : length (column planes s l ++ (b ∷ [])) ≡ suc s = length-append (column planes s l) (b ∷ []) ∙ omega (arith, long) in
+      ap (λ d. leastTo (λ w. laneCosts rows l w b) (2 ^ d - 1)) e
+      ∙ leastTo-ext _ _ (2 ^ length (window k (suc s)) - 1) (λ w lw.
+      let lt : w < 2 ^ length (window k (suc s)) = omega (arith, pow-pos (length (window k (suc s)))) in
+      let l16 : w < 16 = narrow d w (rw (← e) at lt) in
+      entry (length (column planes s l ++ (b ∷ []))) n w (rw (← n) at lt) l16 (h b w (rw (← n) at lt)))
+      ∙ sym (by-paths k s lk ls (laneCosts costs l) (column planes s l) long b)
     where
       e : shapeAt k s 0 - s ≡ length (window k (suc s))
       e = sym ((shaped k s lk ls) .wide)
 
-      entry : (b : Bool) (n : ℕ) → n ≡ suc s → (w : ℕ) → w < 2 ^ length (window k n) → w < 16
+      entry : (n : ℕ) → n ≡ suc s → (w : ℕ) → w < 2 ^ length (window k n) → w < 16
           → getD (rowOf (scoreRows rows l) b) w (pos 0) ≡ bestScore (matrix 16 16 (arikan 4)) (laneCosts costs l) (pathOf (solution k n) (column planes s l ++ (b ∷ [])) (bits (length (window k n)) w))
           → laneCosts rows l w b ≡ least (matrix 16 16 (arikan 4)) (laneCosts costs l) (pathOf (solution k (suc s)) (column planes s l ++ (b ∷ [])) (bits (length (window k (suc s))) w))
-      entry b n en w lw l16 p =
+      entry n en w lw l16 p =
           neg-same _ _ (sym (score-cell rows l w b l16) ∙ p
           ∙ ap (λ n. bestScore (matrix 16 16 (arikan 4)) (laneCosts costs l) (pathOf (solution k n) (column planes s l ++ (b ∷ [])) (bits (length (window k n)) w))) en)
 
-      row : (b : Bool) → leastTo (λ w. laneCosts rows l w b) (2 ^ (shapeAt k s 0 - s) - 1) ≡ least (kernelCode k) (laneCosts costs l) (column planes s l ++ (b ∷ []))
-      row b =
-          let n : length (column planes s l ++ (b ∷ [])) ≡ suc s = length-append (column planes s l) (b ∷ []) ∙ omega (arith, long) in
-          ap (λ d. leastTo (λ w. laneCosts rows l w b) (2 ^ d - 1)) e
-          ∙ leastTo-ext _ _ (2 ^ length (window k (suc s)) - 1) (λ w lw.
-          let lt : w < 2 ^ length (window k (suc s)) = omega (arith, pow-pos (length (window k (suc s)))) in
-          let l16 : w < 16 = narrow d w (rw (← e) at lt) in
-          entry b (length (column planes s l ++ (b ∷ []))) n w (rw (← n) at lt) l16 (h b w (rw (← n) at lt)))
-          ∙ sym (by-paths k s lk ls (laneCosts costs l) (column planes s l) long b)
+  -- and the difference of both is the score.
+  pub lane-score : (rows : List (List (List ℕ))) → shapeAt k s 0 - s ≤ 4 → HeldLane k costs planes s rows l
+      → subℕ (leastTo (λ w. laneCosts rows l w true) (2 ^ (shapeAt k s 0 - s) - 1)) (leastTo (λ w. laneCosts rows l w false) (2 ^ (shapeAt k s 0 - s) - 1))
+      ≡ score (kernelCode k) (laneCosts costs l) (column planes s l)
+  lane-score rows d h = ap₂ subℕ (lane-least rows d h true) (lane-least rows d h false) ∙ sym (score-least (kernelCode k) (laneCosts costs l) (column planes s l))
 
--- From one phase to the next: the rows that a phase leaves are kept for the next one, whatever plane follows.
-pub held-kept : (k : ℕ) (costs : List (List (List ℕ))) (planes planes′ : List ℕ) (s : ℕ) (rows : List (List (List ℕ)))
-    → ((i : ℕ) → i < s → getD planes′ i 0 ≡ getD planes i 0) → HeldLanes k costs planes s rows → KeptLanes k costs planes′ (s + 1) rows
-held-kept k costs planes planes′ s rows same h l ll =
+-- From one phase to the next: the rows that a phase leaves in a lane are kept for the next one, whatever plane follows.
+pub held-kept-lane : (k : ℕ) (costs : List (List (List ℕ))) (planes planes′ : List ℕ) (s : ℕ) (rows : List (List (List ℕ)))
+    → ((i : ℕ) → i < s → getD planes′ i 0 ≡ getD planes i 0) → (l : ℕ) → HeldLane k costs planes s rows l → KeptLane k costs planes′ (s + 1) rows l
+held-kept-lane k costs planes planes′ s rows same l h =
     let e : s + 1 - 1 ≡ s = omega arith in
     subst⁻¹ (λ n. Kept k (laneCosts costs l) (column planes′ (s + 1) l) (rowOf (scoreRows rows l) (laneBit (getD planes′ n 0) l))) e
     (subst⁻¹ (λ (us : List Bool). Kept k (laneCosts costs l) us (rowOf (scoreRows rows l) (laneBit (getD planes′ s 0) l)))
     (ap (λ n. column planes′ n l) (add-one s) ∙ tabulate-next s (λ i. laneBit (getD planes′ i 0) l) (λ i. laneBit (getD planes i 0) l) (λ i li. ap (λ x. laneBit x l) (same i li)))
-    (h l ll (laneBit (getD planes′ s 0) l)))
+    (h (laneBit (getD planes′ s 0) l)))
+
+-- The same in each lane.
+pub held-kept : (k : ℕ) (costs : List (List (List ℕ))) (planes planes′ : List ℕ) (s : ℕ) (rows : List (List (List ℕ)))
+    → ((i : ℕ) → i < s → getD planes′ i 0 ≡ getD planes i 0) → HeldLanes k costs planes s rows → KeptLanes k costs planes′ (s + 1) rows
+held-kept k costs planes planes′ s rows same h l ll = held-kept-lane k costs planes planes′ s rows same l (h l ll)

@@ -17,11 +17,18 @@ column planes n l = tabulate n (λ s. laneBit (getD planes s 0) l)
 abbrev pub scoreRows : List (List (List ℕ)) → ℕ → List (List ℤ)
 scoreRows rows l = tabulate 16 (λ w. negℤ (pos (laneCosts rows l w false))) ∷ tabulate 16 (λ w. negℤ (pos (laneCosts rows l w true))) ∷ []
 
--- In each lane the rows are what the step of one kernel owes, for that lane's costs and symbols: lanes never mix.
-abbrev pub HeldLanes : ℕ → List (List (List ℕ)) → List ℕ → ℕ → List (List (List ℕ)) → Type 0
-HeldLanes k costs planes n rows = (l : ℕ) → l < 16 → Held k (laneCosts costs l) (column planes n l) (scoreRows rows l)
+-- The rows are what the step of one kernel owes in lane l, for that lane's costs and symbols: lanes never mix.
+abbrev pub HeldLane : ℕ → List (List (List ℕ)) → List ℕ → ℕ → List (List (List ℕ)) → ℕ → Type 0
+HeldLane k costs planes n rows l = Held k (laneCosts costs l) (column planes n l) (scoreRows rows l)
 
--- In each lane the row of the symbol that was chosen last is kept: the last plane has it.
+-- The same in each lane.
+abbrev pub HeldLanes : ℕ → List (List (List ℕ)) → List ℕ → ℕ → List (List (List ℕ)) → Type 0
+HeldLanes k costs planes n rows = (l : ℕ) → l < 16 → HeldLane k costs planes n rows l
+
+-- The row of the symbol that was chosen last is kept in lane l: the last plane has it.
+abbrev pub KeptLane : ℕ → List (List (List ℕ)) → List ℕ → ℕ → List (List (List ℕ)) → ℕ → Type 0
+KeptLane k costs planes n rows l = Kept k (laneCosts costs l) (column planes n l) (rowOf (scoreRows rows l) (laneBit (getD planes (n - 1) 0) l))
+
+-- The same in each lane.
 abbrev pub KeptLanes : ℕ → List (List (List ℕ)) → List ℕ → ℕ → List (List (List ℕ)) → Type 0
-KeptLanes k costs planes n rows =
-    (l : ℕ) → l < 16 → Kept k (laneCosts costs l) (column planes n l) (rowOf (scoreRows rows l) (laneBit (getD planes (n - 1) 0) l))
+KeptLanes k costs planes n rows = (l : ℕ) → l < 16 → KeptLane k costs planes n rows l

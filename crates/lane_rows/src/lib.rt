@@ -84,7 +84,7 @@ fn path_after(w: usize, n: usize) -> usize
 }
 
 // The least of n paths in each lane, for symbol 0 and for symbol 1.
-fn least_pair(rows: &[[[u16; 16]; 2]; 16], n: usize) -> [[u16; 16]; 2]
+pub fn least_pair(rows: &[[[u16; 16]; 2]; 16], n: usize) -> [[u16; 16]; 2]
     requires { ⌜ (0 < n) × (n ≤ 16) ⌝ }
     ensures { λ r. ⌜ ((l : ℕ) (b : Bool) → l < 16 → cell 0 r l b ≡ leastTo (λ w. laneCosts (now (rows .entry)) l w b) (n - 1)) ⌝ }
 {

@@ -18,7 +18,7 @@ use Rattle.windows.proofs.Tables.{heightAt, shaped, again}
 use Rattle.windows.proofs.Steps.{again-small}
 use Rattle.windows.proofs.Stepping.{started, in-range}
 use Rattle.lane.specs.Lanes.{laneBit, laneCosts}
-use Rattle.lane_phases.specs.Rows.{column, HeldLanes, KeptLanes}
+use Rattle.lane_phases.specs.Rows.{column, HeldLane, HeldLanes, KeptLane}
 use Rattle.lane_phases.proofs.Phases.{fresh-lane, again-lane}
 use Rattle.lane_step.specs.Step.{numberBefore}
 
@@ -74,9 +74,9 @@ module _ (k s : ℕ) (lk : k < 3) (ls : s < 16) (costs : List (List (List ℕ)))
       (λ w l b lw. rw (before-wide f, pow-succ') at (again-small k s lk ls (laneCosts costs l) (column planes s l) (length-tabulate s (λ i. laneBit (getD planes i 0) l)) f w b)))
 
   -- and takes its rows from those.
-  pub again-lanes : (high : ℕ) (table : List ℕ) → high ≡ shapeAt k s 0 → table ≡ pathRows k s → (shapeAt k s 1 ≡ 0 → ⊥) → (old rows : List (List (List ℕ)))
-      → KeptLanes k costs planes s old → FromBefore s planes high table old rows → HeldLanes k costs planes s rows
-  again-lanes high table eh et f old rows kept =
-      subst⁻¹ (λ n. FromBefore s planes n table old rows → HeldLanes k costs planes s rows) eh
-      (subst⁻¹ (λ t. FromBefore s planes (shapeAt k s 0) t old rows → HeldLanes k costs planes s rows) et
-      (λ h l ll. again-lane k s lk ls costs planes l f few old rows (laneBit (getD planes (s - 1) 0) l) (kept l ll) (λ w b lw. h w l b lw ll)))
+  pub again-held-lane : (high : ℕ) (table : List ℕ) → high ≡ shapeAt k s 0 → table ≡ pathRows k s → (shapeAt k s 1 ≡ 0 → ⊥) → (old rows : List (List (List ℕ))) (l : ℕ)
+      → l < 16 → KeptLane k costs planes s old l → FromBefore s planes high table old rows → HeldLane k costs planes s rows l
+  again-held-lane high table eh et f old rows l ll kept =
+      subst⁻¹ (λ n. FromBefore s planes n table old rows → HeldLane k costs planes s rows l) eh
+      (subst⁻¹ (λ t. FromBefore s planes (shapeAt k s 0) t old rows → HeldLane k costs planes s rows l) et
+      (λ h. again-lane k s lk ls costs planes l f few old rows (laneBit (getD planes (s - 1) 0) l) kept (λ w b lw. h w l b lw ll)))

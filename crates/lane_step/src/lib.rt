@@ -11,7 +11,7 @@ ghost use Rattle.folds.specs.Rows.{cell};
 ghost use Rattle.kernel.specs.Kernels.{kernelCode};
 ghost use Rattle.windows.specs.Tables.{shapeTable, pathRows};
 ghost use Rattle.lane.specs.Lanes.{laneBits, laneBit, laneCosts, LanesWithin};
-ghost use Rattle.lane_phases.specs.Rows.{column, HeldLanes, KeptLanes};
+ghost use Rattle.lane_phases.specs.Rows.{column, HeldLane, HeldLanes, KeptLane, KeptLanes};
 ghost use Rattle.lane_step.specs.Step.{pathTotal, numberBefore, Halves};
 
 // The least totals of path w.
@@ -87,8 +87,9 @@ fn again(
 }
 
 // The least totals of all paths with symbol 0 and with symbol 1 after a phase, in each lane: from those of the phase before and
-// the last plane, or folded from what the places pay and its fold onto eight.
-fn next_rows(
+// the last plane, or folded from what the places pay and its fold onto eight. Lanes never mix: a lane whose rows before were not
+// kept has no sensible rows after, and the others have theirs.
+pub fn next_rows(
     kernel: usize,
     phase: usize,
     shape: [u8; 2],
@@ -101,10 +102,10 @@ fn next_rows(
 )
     requires { ⌜ (kernel < 3) × (phase < 16) × (now flags ≡ laneBits) ⌝ }
     requires { ⌜ (shape ≡ getD (getD shapeTable kernel []) phase []) × (now table ≡ pathRows kernel phase) ⌝ }
-    requires { ⌜ LanesWithin 2047 (now costs) × LanesWithin 4095 (now halves) × Halves (now costs) (now halves) ⌝ }
-    requires { ⌜ (length (now rows) ≡ 16) × (0 < phase → (getD shape 1 0 ≡ 0 → ⊥) → KeptLanes kernel (now costs) (now planes) phase (now rows)) ⌝ }
+    requires { ⌜ LanesWithin 2047 (now costs) × (getD shape 0 0 < 8 → LanesWithin 4095 (now halves) × Halves (now costs) (now halves)) ⌝ }
+    requires { ⌜ length (now rows) ≡ 16 ⌝ }
     ensures room { λ _. ⌜ length (now (rows .exit)) ≡ 16 ⌝ }
-    ensures held { λ _. ⌜ HeldLanes kernel (now (costs .entry)) (now (planes .entry)) phase (now (rows .exit)) ⌝ }
+    ensures held { λ _. ⌜ ((l : ℕ) → l < 16 → (0 < phase → (getD shape 1 0 ≡ 0 → ⊥) → KeptLane kernel (now (costs .entry)) (now (planes .entry)) phase (now (rows .entry)) l) → HeldLane kernel (now (costs .entry)) (now (planes .entry)) phase (now (rows .exit)) l) ⌝ }
 {
     let high = shape[0] as usize;
     if shape[1] != 0 {

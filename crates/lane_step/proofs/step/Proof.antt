@@ -11,6 +11,7 @@ use Rattle.windows.specs.Tables.{shapeAt}
 use Rattle.windows.proofs.Words.{pow-le, paths-are}
 use Rattle.windows.proofs.Stepping.{in-range}
 use Rattle.lane.specs.Lanes.{laneCosts}
+use Rattle.lane_phases.specs.Rows.{HeldLanes}
 use Rattle.lane_phases.proofs.Phases.{lane-score}
 use borrow.Author.Needs.{needs}
 use Rattle.lane_step.proofs.step.Statement.{statement}
@@ -21,7 +22,8 @@ some-paths : (d : ℕ) → d ≤ 4 → (0 < 1 * 2 ^ d % 2 ^ 64) × (1 * 2 ^ d % 
 some-paths d l = (rw (paths-are d l) (pow-pos d), rw (paths-are d l) (pow-le d l))
 
 next-rows-requires : tie.Need-next-rows-requires
-next-rows-requires c κs = search needs
+next-rows-requires c κs = let p = c .before .pre in
+    (p .0, (p .1 .0, ((p .1 .1 .0 .0, λ _. (p .1 .1 .0 .1, p .1 .1 .0 .2)), p .1 .1 .1 .0)))
 
 array-read-high : tie.Need-array-read-high
 array-read-high c = search needs
@@ -56,15 +58,16 @@ returns c =
     let rows = n .next-rows .last .1 .1 .1 .1 .1 .1 .1 .1 .0 in
     let r = in-range (a .kernel) (a .phase) (p .0 .0) (p .0 .1) 0 (a .t3) (p .1 .0 .0) in
     let e : getD (a .t3) 0 0 ≡ shapeAt (a .kernel) (a .phase) 0 = ap (λ l. getD l 0 0) (p .1 .0 .0) in
-    let d : shapeAt (a .kernel) (a .phase) 0 - a .phase ≤ 4 = omega (arith, e, r .2) in (
+    let d : shapeAt (a .kernel) (a .phase) 0 - a .phase ≤ 4 = omega (arith, e, r .2) in
+    let held : HeldLanes (a .kernel) (a .costs .now) (a .planes .now) (a .phase) rows = λ l ll. n .next-rows .ensures .1 l ll (λ late f. p .1 .1 .1 .1 late f l ll) in (
       n .next-rows .ensures .0,
       (
-        n .next-rows .ensures .1,
+        held,
         λ l ll.
             c .scores .ensures l ll
             ∙ ap (λ m. subℕ (leastTo (λ w. laneCosts rows l w true) (m - 1)) (leastTo (λ w. laneCosts rows l w false) (m - 1)))
             (paths-are (getD (a .t3) 0 0 - a .phase) (r .2) ∙ ap (λ h. 2 ^ (h - a .phase)) e)
-            ∙ lane-score (a .kernel) (a .phase) (p .0 .0) (p .0 .1) (a .costs .now) (a .planes .now) l rows d (n .next-rows .ensures .1 l ll),
+            ∙ lane-score (a .kernel) (a .phase) (p .0 .0) (p .0 .1) (a .costs .now) (a .planes .now) l rows d (held l ll),
       ),
     )
 
