@@ -44,7 +44,7 @@ fn place_costs(values: &[i8], t: usize) -> [[u16; 16]; 2]
 }
 
 // What each value pays, by place, bit and lane.
-fn outer_costs(values: &[i8]) -> [[[u16; 16]; 2]; 16]
+pub fn outer_costs(values: &[i8]) -> [[[u16; 16]; 2]; 16]
     requires { ⌜ (length (now values) ≡ 256) × (firstOutside 127 (now values) ≡ 256) ⌝ }
     ensures { λ r. ⌜ ((j t : ℕ) (c : Bool) → j < 16 → t < 16 → laneCosts r j t c ≡ channel (now (values .entry)) (16 * j + t) c) × LanesWithin 127 r ⌝ }
 {

@@ -1,0 +1,4 @@
+pub mod Tests
+pub mod Candidates
+pub mod Rows
+pub mod Stepping

@@ -1,0 +1,244 @@
+// One phase of a row for all paths of the list: the least totals of the inner kernel on each path, and the paths that stay.
+ghost use mathlib.Core.Path.{_≡_};
+ghost use mathlib.Core.Bool.{Bool, true, false};
+ghost use mathlib.Core.List.{[], _∷_, _++_};
+ghost use Prim.Native.Nat.{ℕ, _+_, _*_, _/_, _≤_, _<_};
+ghost use lib.ListN.{length, getD, drop};
+ghost use Rattle.bits.specs.Packed.{bits};
+ghost use Rattle.polar.specs.Code.{least};
+ghost use Rattle.folds.specs.Rows.{cell};
+ghost use Rattle.kernel.specs.Kernels.{kernelCode};
+ghost use Rattle.windows.specs.Tables.{shapeTable, pathTable};
+ghost use Rattle.windows.specs.Paths.{Held};
+ghost use Rattle.lane.specs.Lanes.{laneCosts};
+ghost use Rattle.lane_phases.specs.Rows.{scoreRows};
+ghost use Rattle.list_step.specs.Step.{rowSymbols, KeptRow, Lanes, PhaseStep};
+ghost use Rattle.list_step.specs.Marked.{Clean, Penalties, Marked};
+
+// The symbols of row r on each of n paths.
+fn row_words(scratch: &[u8], n: usize, r: usize) -> [u16; 16]
+    requires { ⌜ (n ≤ 8) × (r < 16) × (4096 ≤ length (now scratch)) ⌝ }
+    ensures { λ w. ⌜ ((i : ℕ) → i < n → bits 16 (getD w i 0) ≡ rowSymbols (now (scratch .entry)) r 16 i) ⌝ }
+{
+    let mut words = [0u16; 16];
+    let mut i: usize = 0;
+    while i < n {
+        words[i] = path::row_word(scratch, i, r);
+        i += 1;
+    }
+    words
+}
+
+// The least totals of phase s of row r on each of n paths, with symbol 0 and with symbol 1. Where the phase before was stepped
+// its rows are there; else they are made from the last phase on that needs none.
+fn phase_totals(
+    inner: usize,
+    r: usize,
+    s: usize,
+    stepped: bool,
+    n: usize,
+    shapes: &[[u8; 2]; 16],
+    tables: &[[u16; 16]; 16],
+    scratch: &[u8],
+    costs: &[[[u16; 16]; 2]; 16],
+    halves: &[[[u16; 16]; 2]; 16],
+    rows: &mut [[[u16; 16]; 2]; 16],
+) -> [[u16; 16]; 2]
+    requires { ⌜ (inner < 3) × (r < 16) × (s < 16) × (n ≤ 8) × (4096 ≤ length (now scratch)) ⌝ }
+    requires { ⌜ (now shapes ≡ getD shapeTable inner []) × (now tables ≡ getD pathTable inner []) ⌝ }
+    requires { ⌜ Lanes (now costs) (now halves) (now rows) ⌝ }
+    requires { ⌜ (stepped ≡ true → (0 < s) × ((i : ℕ) → i < n → KeptRow inner (now costs) (now rows) (now scratch) r s i)) ⌝ }
+    ensures room { λ _. ⌜ length (now (rows .exit)) ≡ 16 ⌝ }
+    ensures held { λ _. ⌜ ((i : ℕ) → i < n → Held inner (laneCosts (now (costs .entry)) i) (rowSymbols (now (scratch .entry)) r s i) (scoreRows (now (rows .exit)) i)) ⌝ }
+    ensures totals { λ q. ⌜ ((i : ℕ) (b : Bool) → i < n → cell 0 q i b ≡ least (kernelCode inner) (laneCosts (now (costs .entry)) i) (rowSymbols (now (scratch .entry)) r s i ++ (b ∷ []))) ⌝ }
+{
+    let words = row_words(scratch, n, r);
+    let planes = lane_moves::planes_of(&words);
+    let first = if stepped {
+        s
+    } else {
+        lane_totals::opening(inner, shapes, s)
+    };
+    lane_totals::totals_from(
+        inner,
+        first,
+        s,
+        shapes,
+        tables,
+        costs,
+        halves,
+        &planes,
+        rows,
+    )
+}
+
+// The penalties of the candidates, path after path, with symbol 0 and with symbol 1. Of those that there are not it is more than
+// any penalty.
+fn candidate_penalties(pair: &[[u16; 16]; 2], n: usize) -> [u16; 16]
+    requires { ⌜ n ≤ 8 ⌝ }
+    ensures { λ q. ⌜ Penalties (now (pair .entry)) n q ⌝ }
+{
+    let mut out = [32766u16; 16];
+    let mut i: usize = 0;
+    while i < n {
+        out[2 * i] = pair[0][i];
+        out[2 * i + 1] = pair[1][i];
+        i += 1;
+    }
+    out
+}
+
+// The path that each of the first eight candidates goes on from.
+fn parents(order: &[usize; 16]) -> [usize; 16]
+    ensures { λ q. ⌜ ((j : ℕ) → j < 8 → getD q j 0 ≡ getD (now (order .entry)) j 0 / 2) ⌝ }
+{
+    let mut out = [0usize; 16];
+    let mut j: usize = 0;
+    while j < 8 {
+        out[j] = order[j] / 2;
+        j += 1;
+    }
+    out
+}
+
+// Whether one of n paths goes on from another position.
+fn is_moved(from: &[usize; 16], n: usize) -> bool
+    requires { ⌜ n ≤ 8 ⌝ }
+    ensures { λ q. ⌜ (q ≡ false → (j : ℕ) → j < n → getD (now (from .entry)) j 0 ≡ j) ⌝ }
+{
+    let mut moved = false;
+    let mut j: usize = 0;
+    while j < n {
+        moved = moved | (from[j] != j);
+        j += 1;
+    }
+    moved
+}
+
+// Each path's home is that of the path it goes on from.
+fn moved_home(home: [usize; 8], from: &[usize; 16]) -> [usize; 8]
+    requires { ⌜ ((j : ℕ) → j < 8 → getD (now from) j 0 < 8) ⌝ }
+    ensures { λ q. ⌜ (length q ≡ 8) × ((j : ℕ) → j < 8 → getD q j 0 ≡ getD home (getD (now (from .entry)) j 0) 0) ⌝ }
+{
+    let mut out = [0usize; 8];
+    let mut j: usize = 0;
+    while j < 8 {
+        out[j] = home[from[j]];
+        j += 1;
+    }
+    out
+}
+
+// The lanes after a phase of so many paths in its window: each of n paths takes over the lane of the path it goes on from.
+fn follow_parents(
+    from: &[usize; 16],
+    n: usize,
+    paths: usize,
+    costs: &mut [[[u16; 16]; 2]; 16],
+    halves: &mut [[[u16; 16]; 2]; 16],
+    rows: &mut [[[u16; 16]; 2]; 16],
+    home: &mut [usize; 8],
+)
+    requires { ⌜ (n ≤ 8) × (paths ≤ 16) × ((j : ℕ) → j < 8 → getD (now from) j 0 < 8) × Lanes (now costs) (now halves) (now rows) × (length (now home) ≡ 8) ⌝ }
+    ensures lanes { λ _. ⌜ Lanes (now (costs .exit)) (now (halves .exit)) (now (rows .exit)) × (length (now (home .exit)) ≡ 8) ⌝ }
+    ensures costs { λ _. ⌜ ((j t : ℕ) (c : Bool) → j < n → t < 16 → laneCosts (now (costs .exit)) j t c ≡ laneCosts (now (costs .entry)) (getD (now (from .entry)) j 0) t c) ⌝ }
+    ensures rows { λ _. ⌜ ((j t : ℕ) (c : Bool) → j < n → t < paths → laneCosts (now (rows .exit)) j t c ≡ laneCosts (now (rows .entry)) (getD (now (from .entry)) j 0) t c) ⌝ }
+    ensures home { λ _. ⌜ ((j : ℕ) → j < n → getD (now (home .exit)) j 0 ≡ getD (now (home .entry)) (getD (now (from .entry)) j 0) 0) ⌝ }
+{
+    if !is_moved(from, n) {
+        return;
+    }
+    lane_moves::rearrange(costs, 16, from);
+    lane_moves::rearrange(rows, paths, from);
+    *halves = lane_nodes::free_eight(costs);
+    let old = *home;
+    *home = moved_home(old, from);
+}
+
+// A marked phase, from the least totals on its paths: every path splits in two, and those that stay take over lanes and homes.
+fn marked_phase(
+    at: usize,
+    list: usize,
+    n: usize,
+    paths: usize,
+    pair: &[[u16; 16]; 2],
+    scratch: &mut [u8],
+    costs: &mut [[[u16; 16]; 2]; 16],
+    halves: &mut [[[u16; 16]; 2]; 16],
+    rows: &mut [[[u16; 16]; 2]; 16],
+    home: &mut [usize; 8],
+) -> usize
+    requires { ⌜ (at < 256) × (1 ≤ list) × (list ≤ 8) × (1 ≤ n) × (n ≤ 8) × (paths ≤ 16) × (4096 ≤ length (now scratch)) ⌝ }
+    requires { ⌜ ((i : ℕ) (b : Bool) → i < n → cell 0 (now pair) i b ≤ 32766) ⌝ }
+    requires { ⌜ Lanes (now costs) (now halves) (now rows) × (length (now home) ≡ 8) ⌝ }
+    ensures lanes { λ _. ⌜ Lanes (now (costs .exit)) (now (halves .exit)) (now (rows .exit)) × (length (now (home .exit)) ≡ 8) ⌝ }
+    ensures rest { λ _. ⌜ (length (now (scratch .exit)) ≡ length (now (scratch .entry))) × (drop 4096 (now (scratch .exit)) ≡ drop 4096 (now (scratch .entry))) ⌝ }
+    ensures marked { λ q. ⌜ Marked at list n paths (now (pair .entry)) (now (scratch .entry)) (now (costs .entry)) (now (rows .entry)) (now (home .entry)) q (now (scratch .exit)) (now (costs .exit)) (now (rows .exit)) (now (home .exit)) ⌝ }
+{
+    let pens = candidate_penalties(pair, n);
+    let order = ranking::in_order(&pens);
+    let keep = if 2 * n < list { 2 * n } else { list };
+    list_phase::next_list(scratch, keep, at, &order, &pens);
+    let from = parents(&order);
+    follow_parents(&from, keep, paths, costs, halves, rows, home);
+    keep
+}
+
+// Phase s of row r: the paths of the list go on, at a marked phase with both symbols, else with 0. Answers how many there are then.
+pub fn one_phase(
+    inner: usize,
+    r: usize,
+    s: usize,
+    marked: bool,
+    stepped: bool,
+    list: usize,
+    n: usize,
+    shapes: &[[u8; 2]; 16],
+    tables: &[[u16; 16]; 16],
+    scratch: &mut [u8],
+    costs: &mut [[[u16; 16]; 2]; 16],
+    halves: &mut [[[u16; 16]; 2]; 16],
+    rows: &mut [[[u16; 16]; 2]; 16],
+    home: &mut [usize; 8],
+) -> usize
+    requires { ⌜ (inner < 3) × (r < 16) × (s < 16) × (1 ≤ list) × (list ≤ 8) × (1 ≤ n) × (n ≤ 8) × (4096 ≤ length (now scratch)) ⌝ }
+    requires { ⌜ (now shapes ≡ getD shapeTable inner []) × (now tables ≡ getD pathTable inner []) ⌝ }
+    requires { ⌜ Lanes (now costs) (now halves) (now rows) × (length (now home) ≡ 8) ⌝ }
+    requires { ⌜ (stepped ≡ true → (0 < s) × ((i : ℕ) → i < n → KeptRow inner (now costs) (now rows) (now scratch) r s i)) ⌝ }
+    requires { ⌜ Clean (16 * r + s) n (now scratch) ⌝ }
+    ensures lanes { λ _. ⌜ Lanes (now (costs .exit)) (now (halves .exit)) (now (rows .exit)) × (length (now (home .exit)) ≡ 8) ⌝ }
+    ensures rest { λ _. ⌜ (length (now (scratch .exit)) ≡ length (now (scratch .entry))) × (drop 4096 (now (scratch .exit)) ≡ drop 4096 (now (scratch .entry))) ⌝ }
+    ensures clean { λ q. ⌜ Clean (16 * r + (s + 1)) q (now (scratch .exit)) ⌝ }
+    ensures phase { λ q. ⌜ PhaseStep inner r s list marked n (now (scratch .entry)) (now (costs .entry)) (now (home .entry)) q (now (scratch .exit)) (now (costs .exit)) (now (rows .exit)) (now (home .exit)) ⌝ }
+{
+    let pair = phase_totals(
+        inner,
+        r,
+        s,
+        stepped,
+        n,
+        shapes,
+        tables,
+        scratch,
+        costs,
+        halves,
+        rows,
+    );
+    if !marked {
+        list_phase::freeze_list(scratch, n, &pair[0]);
+        return n;
+    }
+    let high = shapes[s][0] as usize;
+    marked_phase(
+        16 * r + s,
+        list,
+        n,
+        1 << (high - s),
+        &pair,
+        scratch,
+        costs,
+        halves,
+        rows,
+        home,
+    )
+}
