@@ -24,7 +24,7 @@ fn some_outside(values: &[i8]) -> bool
 
 // The lowest index whose value lies outside -127 to 127, or 256. Where there is such a value, which is seldom, it is searched
 // block by block; the last line is then not reached.
-fn frame_outside(values: &[i8]) -> usize
+pub fn frame_outside(values: &[i8]) -> usize
     requires { ⌜ length (now values) ≡ 256 ⌝ }
     ensures { λ r. ⌜ r ≡ firstOutside 127 (now (values .entry)) ⌝ }
 {

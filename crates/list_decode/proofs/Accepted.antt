@@ -1,0 +1,203 @@
+-- What the acceptance of the checks yields, and what list decoding leaves. Assumes nothing.
+use mathlib.Core.Path.{_≡_, refl, sym, ap, ap₂, _∙_}
+use mathlib.Core.Bool.{Bool, true, false, not, _||_}
+use mathlib.Core.List.{List, [], _++_, append-nil}
+use Prim.Native.Nat.{ℕ, _+_, _-_, _*_, _/_, _≤_, _<_}
+use native.Mathlib.Decide.{decLt}
+use native.Mathlib.Omega.{arith}
+use borrow.Author.Tests.{not-false, eqb-true, ltb-false}
+use lib.Dec.{ltb}
+use lib.IntN.{ℤ}
+use lib.ListN.{length, getD, take, drop, replicate, length-replicate}
+use lib.Seq.{drop-drop, take-at}
+use Rattle.base.specs.Bit.{bit}
+use Rattle.base.proofs.Bool.{or-eq-false}
+use Rattle.bits.specs.Packed.{unpack}
+use Rattle.bits.proofs.Packed.{length-pack}
+use Rattle.payload.specs.Payload.{gather}
+use Rattle.answer.specs.Verdict.{Verdict, done, penalty, refused, isAccepted, Check, settle, after}
+use Rattle.answer.proofs.Settle.{None, none-of, settle-none, settle-stopped, after-refused}
+use Rattle.mask.specs.Mask.{marked, badMask, payloadBytes}
+use Rattle.mask.proofs.Mask.{bytes-marked, bytes-eighth}
+use Rattle.polar.specs.Code.{channel, least}
+use Rattle.list.specs.Paths.{paths}
+use Rattle.list.proofs.Paths.{paths-long}
+use Rattle.folds.specs.Range.{firstOutside}
+use Rattle.folds.proofs.Range.{outside-le}
+use Rattle.kernel.specs.Jobs.{isPair}
+use Rattle.kernel.proofs.Checks.{pair-lt}
+use Rattle.grid.specs.Grid.{rowsBits}
+use Rattle.frame.specs.Frames.{frameCode}
+use Rattle.path.specs.Path.{HasSymbols, pathAt}
+use Rattle.path.specs.declared.Path.{Path}
+use Rattle.decode.specs.Jobs.{valueCheck}
+use Rattle.list_run.specs.Run.{framePaths, ListRun}
+use Rattle.list_decode.specs.Jobs.{listDecodeChecks, finalPaths, payloadOf, agreesAt, Choice, chosen, none, MayChoose, verdictOf, chosenPayload, listDecode}
+use Rattle.list_decode.specs.Found.{symbolsAt, FirstAgreeing, HandedOut}
+use Rattle.list_decode.proofs.Choices.{some-choice}
+
+-- Values that pass: none is outside.
+inside-all : (values : List ℤ) → length values ≡ 256 → (valueCheck values) .holds ≡ false → firstOutside 127 values ≡ 256
+unfolding valueCheck
+inside-all values e h = omega (arith, ltb-false (firstOutside 127 values) (length values) h, outside-le 127 values)
+
+-- Inputs that pass all checks of list decoding.
+pub record ListAccepted (a b L : ℕ) (values : List ℤ) (mask : List ℕ) (scratchRoom payloadRoom : ℕ) : Type 0 where
+  pub inner : a < 3
+  pub outer : b < 3
+  pub some-paths : 1 ≤ L
+  pub few-paths : L ≤ 8
+  pub count : length values ≡ 256
+  pub inside : firstOutside 127 values ≡ 256
+  pub mask-count : length mask ≡ 32
+  pub bytes-are : 8 * payloadBytes mask ≡ marked mask
+  pub enough : 3 ≤ payloadBytes mask
+  pub payload-room : payloadBytes mask ≤ payloadRoom
+  pub scratch-room : 8192 ≤ scratchRoom
+
+-- Each byte of its payload fills eight marked phases.
+pub marked-bytes : (mask : List ℕ) → length mask ≡ 32 → badMask mask ≡ false → 8 * payloadBytes mask ≡ marked mask
+unfolding marked
+marked-bytes mask l g = bytes-marked mask l g
+
+list-passes : (a b L : ℕ) (values : List ℤ) (mask : List ℕ) (scratchRoom payloadRoom : ℕ) → None (listDecodeChecks a b L values mask scratchRoom payloadRoom)
+    → ListAccepted a b L values mask scratchRoom payloadRoom
+unfolding listDecodeChecks
+list-passes a b L values mask scratchRoom payloadRoom n =
+    let known : not (isPair a b) ≡ false = search (n .0, n .1 .0) in
+    let size : (ltb L 1 || ltb 8 L) ≡ false = search (n .0, n .1 .0) in
+    let few : ltb (marked mask) 24 ≡ false = search (n .1 .1 .1 .1 .0, n .1 .1 .1 .1 .1 .0) in
+    let room : (ltb payloadRoom (marked mask / 8) || ltb scratchRoom 8192) ≡ false = search (n .1 .1 .1 .1 .0, n .1 .1 .1 .1 .1 .0) in
+    let p = pair-lt a b (not-false _ known) in
+    let s = or-eq-false (ltb L 1) (ltb 8 L) size in
+    let h = or-eq-false _ _ (n .1 .1 .0) in
+    let e = eqb-true (length values) 256 (not-false _ (h .0)) in
+    let l = eqb-true (length mask) 32 (not-false _ (h .1)) in
+    let g = n .1 .1 .1 .0 in
+    let k : 8 * payloadBytes mask ≡ marked mask = marked-bytes mask l g in
+    let r = or-eq-false (ltb payloadRoom (marked mask / 8)) (ltb scratchRoom 8192) room in
+    record {
+      inner = p .0;
+      outer = p .1;
+      some-paths = ltb-false L 1 (s .0);
+      few-paths = ltb-false 8 L (s .1);
+      count = e;
+      inside = inside-all values e (n .1 .1 .1 .1 .1 .1 .0);
+      mask-count = l;
+      bytes-are = k;
+      enough = omega (arith, ltb-false (marked mask) 24 few);
+      payload-room = rw (bytes-eighth mask l g) (ltb-false payloadRoom (marked mask / 8) (r .0));
+      scratch-room = ltb-false scratchRoom 8192 (r .1);
+    }
+
+-- A payload that was written to the front of 32 bytes is what their first bytes are,
+pub front : (mask : List ℕ) (u : List Bool) (old new : List ℕ) (bytes : ℕ) → 8 * bytes ≡ marked mask → new ≡ payloadOf mask u ++ drop (marked mask / 8) old
+    → take bytes new ≡ payloadOf mask u
+front mask u old new bytes e f =
+    let k : marked mask / 8 ≡ bytes = omega arith in
+    ap (take bytes) f ∙ take-at (payloadOf mask u) (drop (marked mask / 8) old) bytes (length-pack (marked mask / 8) (gather (unpack mask) u) ∙ k)
+
+-- and there are so many of them.
+pub front-count : (mask : List ℕ) (u : List Bool) (old new : List ℕ) (bytes : ℕ) → 8 * bytes ≡ marked mask → new ≡ payloadOf mask u ++ drop (marked mask / 8) old
+    → length (take bytes new) ≡ bytes
+front-count mask u old new bytes e f =
+    let k : marked mask / 8 ≡ bytes = omega arith in
+    ap length (front mask u old new bytes e f) ∙ length-pack (marked mask / 8) (gather (unpack mask) u) ∙ k
+
+-- A record of a path of 256 symbols has them all.
+whole : (p : List Bool) (path : Path) → length p ≡ 256 → HasSymbols p path → unpack (path .symbols) ≡ p
+whole p path e h =
+    let z : 256 - length p ≡ 0 = omega arith in
+    h ∙ ap (λ k. p ++ replicate k false) z ∙ append-nil p
+
+module _ (a b L : ℕ) (values : List ℤ) (mask oldScratch oldPayload : List ℕ) where
+  abbrev checks : List Check
+  checks = listDecodeChecks a b L values mask (length oldScratch) (length oldPayload)
+
+  abbrev finals : List (List Bool)
+  finals = finalPaths a b L values mask
+
+  abbrev total : List Bool → ℕ
+  total = least (frameCode a b) (channel values)
+
+  -- What the job promises of a verdict and of what the buffers hold then.
+  abbrev Decoded : Verdict → List ℕ → List ℕ → Type 0
+  Decoded v scratch payload = (c : Choice) × MayChoose finals mask c × (listDecode a b L values mask oldScratch oldPayload c ≡ (v, scratch, payload))
+
+  -- A job that is refused by a check leaves its buffers.
+  pub list-refused : (v : Verdict) → v ≡ settle checks done → isAccepted v ≡ false → Decoded v oldScratch oldPayload
+  unfolding listDecode
+  list-refused v e r =
+      let s = some-choice finals mask in
+      let c = s .0 in
+      let zeros : List ℕ = replicate 8192 0 in
+      let new = chosenPayload finals mask c in (
+        c,
+        s .1,
+        ap (λ (x : Verdict). (x, after (settle checks done) oldScratch zeros, after x oldPayload new)) (settle-stopped checks done (verdictOf total finals c) refl (ap isAccepted (sym e) ∙ r))
+            ∙ ap (λ (x : Verdict). (x, after x oldScratch zeros, after x oldPayload new)) (sym e)
+            ∙ ap₂ (λ (x y : List ℕ). (v, x, y)) (after-refused v oldScratch zeros r) (after-refused v oldPayload new r),
+      )
+
+  module _ (ok : isAccepted (settle checks done) ≡ true) where
+    pub list-accepted : ListAccepted a b L values mask (length oldScratch) (length oldPayload)
+    list-accepted = list-passes a b L values mask (length oldScratch) (length oldPayload) (none-of checks done ok)
+
+    -- With the choice c an accepted job answers the verdict of c and leaves zeros in scratch.
+    answered : (c : Choice) → listDecode a b L values mask oldScratch oldPayload c
+        ≡ (verdictOf total finals c, replicate 8192 0 ++ drop 8192 oldScratch, after (verdictOf total finals c) oldPayload (chosenPayload finals mask c))
+    unfolding listDecode
+    answered c =
+        let v = verdictOf total finals c in
+        let zeros : List ℕ = replicate 8192 0 in
+        let new = chosenPayload finals mask c in
+        let n = none-of checks done ok in
+        ap (λ (x : Verdict). (x, after (settle checks done) oldScratch zeros, after x oldPayload new)) (settle-none checks v n)
+        ∙ ap (λ (x : Verdict). (v, after x oldScratch zeros, after v oldPayload new)) (settle-none checks done n)
+        ∙ ap (λ k. (v, zeros ++ drop k oldScratch, after v oldPayload new)) (length-replicate {A = ℕ} 8192 0)
+
+    module _ (marks : List ℕ) (n r : ℕ) (ran : List ℕ) (em : rowsBits marks ≡ unpack mask) (run : ListRun a b L values marks n ran) (first : FirstAgreeing mask ran n r) where
+      same-paths : framePaths a b L values marks 256 ≡ finals
+      same-paths = ap (λ w. paths (frameCode a b) (channel values) (bit w) L 256) em
+
+      final-count : length finals ≡ n
+      final-count = ap (λ (l : List (List Bool)). length l) (sym same-paths) ∙ run .count-is
+
+      symbols-are : (i : ℕ) → i < n → symbolsAt ran i ≡ getD finals i []
+      symbols-are i l =
+          let li : i < length (framePaths a b L values marks 256) = omega (arith, run .count-is) in
+          whole _ (pathAt i ran) (paths-long (frameCode a b) (channel values) (bit (rowsBits marks)) L 256 i li) (run .listed i li)
+          ∙ ap (λ (l : List (List Bool)). getD l i []) same-paths
+
+      penalty-is : (i : ℕ) → i < n → (pathAt i ran) .penalty ≡ total (getD finals i [])
+      penalty-is i l = run .paid i (omega (arith, run .count-is)) ∙ ap (λ (l : List (List Bool)). total (getD l i [])) same-paths
+
+      -- An accepted job hands out the path that was found, or 13, and clears the scratch.
+      pub list-done : (v : Verdict) (scratch′ payload′ : List ℕ) → drop 4096 ran ≡ drop 4096 oldScratch
+          → HandedOut mask ran r n oldPayload v payload′ → scratch′ ≡ replicate 8192 0 ++ drop 8192 ran → Decoded v scratch′ payload′
+      list-done v scratch′ payload′ rest h e = go (decLt r n)
+        where
+          cleared : replicate 8192 0 ++ drop 8192 oldScratch ≡ scratch′
+          cleared =
+              ap (λ (l : List ℕ). replicate 8192 0 ++ l) (sym (drop-drop 4096 4096 oldScratch) ∙ ap (drop 4096) (sym rest) ∙ drop-drop 4096 4096 ran) ∙ sym e
+
+          go : Dec (r < n) → Decoded v scratch′ payload′
+          go (yes l) =
+              let u = getD finals r [] in
+              let new = payloadOf mask u in
+              let o = h .some l in (
+                chosen r,
+                (omega (arith, final-count), ap (agreesAt mask) (sym (symbols-are r l)) ∙ first .found l),
+                answered (chosen r)
+                    ∙ ap₂ (λ (x : Verdict) (y : List ℕ). (x, y, new ++ drop (length new) oldPayload)) (ap penalty (sym (penalty-is r l)) ∙ sym (o .0)) cleared
+                    ∙ ap (λ (y : List ℕ). (v, scratch′, y)) (ap (λ k. new ++ drop k oldPayload) (length-pack _ _) ∙ ap (λ w. payloadOf mask w ++ drop (marked mask / 8) oldPayload) (sym (symbols-are r l)) ∙ sym (o .1)),
+              )
+          go (no k) =
+              let q : n ≤ r = omega (arith, k) in
+              let o = h .no q in (
+                none,
+                (λ i l. let li : i < n = omega (arith, final-count) in ap (agreesAt mask) (sym (symbols-are i li)) ∙ first .before i (omega arith)),
+                answered none
+                    ∙ ap₂ (λ (x : Verdict) (y : List ℕ). (x, y, oldPayload)) (sym (o .0)) cleared
+                    ∙ ap (λ (y : List ℕ). (v, scratch′, y)) (sym (o .1)),
+              )
