@@ -1,4 +1,4 @@
-// The C interface: each job under its C name, answering with a number, a place and, for some, a word.
+// The C interface: each job under its C name, answering with a number, a place and, for some, a word or a penalty.
 ghost use mathlib.Core.Path.{_≡_};
 ghost use Rattle.answer.specs.Verdict.{verdict};
 ghost use Rattle.kernel.specs.Jobs.{kernelEncode, kernelUndo};
@@ -8,7 +8,8 @@ ghost use Rattle.frame.specs.Jobs.{frameEncode, frameUndo};
 ghost use Rattle.follow.specs.Jobs.{kernelFollow};
 ghost use Rattle.decode.specs.Jobs.{frameFollow, frameDecode};
 ghost use Rattle.quantiser.specs.Jobs.{valuesFromMarks};
-ghost use Rattle.link.specs.Outcomes.{outcomeOf, outcomeWith, outcomeWithTwo, outcomeWithThree, wordOutcomeOf};
+ghost use Rattle.list_decode.specs.Jobs.{finalPaths, Choice, MayChoose, listDecode};
+ghost use Rattle.link.specs.Outcomes.{outcomeOf, outcomeWith, outcomeWithTwo, outcomeWithThree, wordOutcomeOf, penaltyOutcomeOf, penaltyOutcomeWithTwo};
 use answer::Answer;
 
 // The outcome of a job without a word: the number of the condition that refused it, 0 if accepted, and the place that it names.
@@ -24,6 +25,14 @@ pub struct WordOutcome {
     pub number: u32,
     pub place: usize,
     pub word: u16,
+}
+
+// The outcome of a job with a penalty, 0 if refused.
+#[repr(C)]
+pub struct PenaltyOutcome {
+    pub number: u32,
+    pub place: usize,
+    pub penalty: u32,
 }
 
 // The outcome of an answer.
@@ -45,6 +54,19 @@ pub fn word_outcome_of(a: Answer) -> WordOutcome
         number: o.number,
         place: o.place,
         word,
+    }
+}
+
+// The outcome of an answer, with its penalty.
+pub fn penalty_outcome_of(a: Answer) -> PenaltyOutcome
+    ensures { λ r. ⌜ r ≡ penaltyOutcomeOf (verdict a) ⌝ }
+{
+    let o = outcome_of(a);
+    let penalty = answer::penalty(a);
+    PenaltyOutcome {
+        number: o.number,
+        place: o.place,
+        penalty,
     }
 }
 
@@ -184,4 +206,21 @@ pub extern "C" fn nospridda_values_from_marks(
 {
     let a = quantiser::values_from_marks(scale, amplitudes, blanked, values);
     outcome_of(a)
+}
+
+// List decoding: the payload and the penalty of a final path whose checksum agrees. Which one, where several agree, is left open.
+#[no_mangle]
+pub extern "C" fn nospridda_list_decode(
+    inner: u8,
+    outer: u8,
+    list: usize,
+    values: &[i8],
+    mask: &[u8],
+    scratch: &mut [u8],
+    payload: &mut [u8],
+) -> PenaltyOutcome
+    ensures { λ r. ⌜ ((c : Choice) × MayChoose (finalPaths inner outer list (now (values .entry)) (now (mask .entry))) (now (mask .entry)) c × (penaltyOutcomeWithTwo (listDecode inner outer list (now (values .entry)) (now (mask .entry)) (now (scratch .entry)) (now (payload .entry)) c) ≡ (r, now (scratch .exit), now (payload .exit)))) ⌝ }
+{
+    let a = list_decode::list_decode(inner, outer, list, values, mask, scratch, payload);
+    penalty_outcome_of(a)
 }
