@@ -8,22 +8,26 @@
  * mask marks the information phases: k of them take a payload of k/8 bytes.
  *
  * Every job but the payload part answers with a number. 0 says that it was
- * accepted; 1 to 10 is the first condition that held, in checking order, and
- * the job did nothing else. The checking order is 1 to 6, then 10, then 7 to 9.
- * With 6, 7 and 9 goes a place, counted from 0; with every other number the
- * place is 0. Each job's text names the numbers that it can answer, in checking
- * order; no other one comes.
+ * accepted; 1 to 13 is the first condition that held, in checking order, and
+ * the job did nothing else, but for what list decode does before it finds 13.
+ * The checking order is 1, 11, 2, 3, 12, 4, 5, 6, 10, 7, 8, 9, 13. With 6, 7 and
+ * 9 goes a place, counted from 0; with every other number the place is 0. Each
+ * job's text names the numbers that it can answer, in checking order; no other
+ * one comes.
  *
  * Buffers are handed over as a pointer and then the count of elements, which
  * is not always the count of bytes. A buffer that is const is only read. An
  * accepted job writes the front of its output buffers, as many elements as its
  * text says; they may be longer, and what lies past the written part stays as
- * it was. What they held before does not matter. A refusal changes no buffer.
+ * it was. What they held before does not matter. A refusal changes no buffer,
+ * with one exception: 13, which only list decode answers, leaves zeros in the
+ * first 8192 bytes of its scratch and touches nothing else.
  *
  * A job keeps nothing from one call to the next: what it answers and writes
- * follows from what it is handed. All this is proved of the library. It
- * allocates nothing, and calls nothing but memcpy and memset. Jobs may run at
- * the same time on different buffers.
+ * follows from what it is handed, but for the one choice that list decode's text
+ * leaves open. All this is proved of the library. It allocates nothing, and
+ * calls nothing but memcpy and memset. Jobs may run at the same time on
+ * different buffers.
  *
  * The library is built for x86-64 Linux, because that is what the kit that
  * proves it compiles for. Firmware on another processor needs the kit's back
@@ -61,6 +65,10 @@
 #define NOSPRIDDA_FRAME_BYTES 32  /* a frame's symbols, word or mask, packed; the longest payload */
 #define NOSPRIDDA_FRAME_MARKS 128 /* the marks that carry a frame */
 #define NOSPRIDDA_MARK_BYTES 16   /* a bit for each of them, packed: the blanking mask */
+#define NOSPRIDDA_LIST_BYTES 8192 /* the scratch that list decode is lent */
+
+/* The most paths that list decode keeps. */
+#define NOSPRIDDA_LIST_PATHS 8
 
 #ifdef __cplusplus
 extern "C" {
@@ -78,7 +86,10 @@ enum nospridda_number {
     NOSPRIDDA_NOT_FINITE = 7,         /* a heard amplitude is NaN or infinite; place: the lowest such amplitude */
     NOSPRIDDA_WRONG_SIZE = 8,         /* a payload size for the information mask is outside 1 to 32 */
     NOSPRIDDA_FROZEN_ONE = 9,         /* a word to undo has symbol 1 at an unmarked phase; place: the lowest such phase */
-    NOSPRIDDA_BAD_SCALE = 10          /* the scale of values from marks is not a finite number above zero */
+    NOSPRIDDA_BAD_SCALE = 10,         /* the scale of values from marks is not a finite number above zero */
+    NOSPRIDDA_BAD_LIST = 11,          /* a count of paths for list decode is outside 1 to 8 */
+    NOSPRIDDA_NO_CHECKSUM = 12,       /* a mask for list decode marks fewer than 24 phases: a checksum and a byte */
+    NOSPRIDDA_NO_PATH = 13            /* no final path of list decode has a checksum that agrees; found last */
 };
 
 /* The outcome of a job without a word: the number, and the place that a
@@ -93,6 +104,13 @@ struct nospridda_word_outcome {
     uint32_t number;
     size_t place;
     uint16_t word;
+};
+
+/* The outcome of list decode; the penalty is 0 if the job was refused. */
+struct nospridda_penalty_outcome {
+    uint32_t number;
+    size_t place;
+    uint32_t penalty;
 };
 
 /* Kernel encode: the word of sixteen symbols.
@@ -240,6 +258,52 @@ struct nospridda_outcome nospridda_frame_decode(
     const uint8_t *mask, size_t mask_length,
     int16_t *scores, size_t scores_length,
     uint16_t *penalties, size_t penalties_length,
+    uint8_t *payload, size_t payload_length);
+
+/* List decode: a payload that ends in a checksum, by up to eight paths.
+ *
+ * list       how many paths are kept at most, 1 to 8.
+ * values     256 values, each from -127 to 127 and positive for bit 0.
+ * mask       32 bytes; it marks 24 phases or more.
+ * scratch    8192 bytes of it are used. They end as zeros, whether the request is
+ *            accepted or answered with 13; what they held before does not matter.
+ * payload    k/8 bytes are written, the two of the checksum among them.
+ *
+ * The last two bytes of a payload are the CRC-16 of those before them: polynomial
+ * 1021 hexadecimal, start ffff, most significant bit first, no final inversion,
+ * high byte stored first. The nine bytes "123456789" have 29b1. The sender puts
+ * it there; frame encode takes such a payload as any other.
+ *
+ * A path is a list of symbols; its penalty is what the best word pays that begins
+ * with them, as with frame follow. There is one path at first, of no symbols. At a
+ * marked phase every path splits in two, with 0 and with 1 next; the paths are
+ * ordered by penalty, equal ones by the place of the path that they are from, then
+ * 0 before 1, and the first ones stay, as many as list says. At an unmarked phase
+ * each path goes on with 0 and keeps its place. With one path the symbols are
+ * those of frame decode.
+ *
+ * The payload is that of a final path whose checksum agrees, and the penalty in
+ * the outcome, at most 32512, is the penalty of this path: what its word pays.
+ * Where several final paths agree, it is one of them; which one is left open, and
+ * not promised. A checksum can agree by chance: that the payload is the one sent,
+ * no job can tell.
+ *
+ * Answers 0 with the penalty, or, with scratch and payload left as they were,
+ *   1  inner or outer is not 0, 1 or 2;
+ *  11  list is not from 1 to 8;
+ *   2  values_length is not 256, or mask_length is not 32;
+ *   3  the mask marks no phase, or a count that is not a multiple of 8;
+ *  12  the mask marks fewer than 24 phases;
+ *   5  payload_length is below k/8, or scratch_length is below 8192;
+ *   6  a value is -128; place: the index of the lowest, 0 to 255;
+ * or, with payload left as it was and zeros in the first 8192 bytes of scratch,
+ *  13  no final path has a checksum that agrees. */
+struct nospridda_penalty_outcome nospridda_list_decode(
+    uint8_t inner, uint8_t outer,
+    size_t list,
+    const int8_t *values, size_t values_length,
+    const uint8_t *mask, size_t mask_length,
+    uint8_t *scratch, size_t scratch_length,
     uint8_t *payload, size_t payload_length);
 
 /* Payload part: how many of the first bytes of a buffer hold the payload.
