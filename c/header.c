@@ -20,7 +20,9 @@ enum {
     SYMBOLS = NOSPRIDDA_FRAME_BITS,
     WORD_BYTES = NOSPRIDDA_FRAME_BYTES,
     MARKS = NOSPRIDDA_FRAME_MARKS,
-    MARK_BYTES = NOSPRIDDA_MARK_BYTES
+    MARK_BYTES = NOSPRIDDA_MARK_BYTES,
+    LIST_BYTES = NOSPRIDDA_LIST_BYTES,
+    LIST_PATHS = NOSPRIDDA_LIST_PATHS
 };
 
 /* Ends the program unless something holds. */
@@ -48,6 +50,17 @@ static void word_outcome(struct nospridda_word_outcome got, uint32_t number, uin
     if (got.number != number || got.place != 0 || got.word != word) {
         fprintf(stderr, "c/header.c: %s: number %u, place %zu and word %04x, expected %u, 0 and %04x\n", what,
                 (unsigned)got.number, got.place, (unsigned)got.word, (unsigned)number, (unsigned)word);
+        exit(EXIT_FAILURE);
+    }
+}
+
+/* The same with the penalty. */
+static void penalty_outcome(struct nospridda_penalty_outcome got, uint32_t number, size_t place, uint32_t penalty,
+                            const char *what)
+{
+    if (got.number != number || got.place != place || got.penalty != penalty) {
+        fprintf(stderr, "c/header.c: %s: number %u, place %zu and penalty %u, expected %u, %zu and %u\n", what,
+                (unsigned)got.number, got.place, (unsigned)got.penalty, (unsigned)number, place, (unsigned)penalty);
         exit(EXIT_FAILURE);
     }
 }
@@ -249,6 +262,140 @@ static void frame_follow(void)
             NOSPRIDDA_VALUE_OUT_OF_RANGE, 200, "frame follow, a value out of range");
 }
 
+/* A payload for list decode: "123456789" and its checksum, 29b1. */
+enum { LISTED = 11 };
+
+static const uint8_t listed[LISTED] = {0x31, 0x32, 0x33, 0x34, 0x35, 0x36, 0x37, 0x38, 0x39, 0x29, 0xb1};
+
+/* A request of it, with buffers that are longer than needed by one byte. */
+struct list_request {
+    uint8_t inner;
+    size_t list;
+    int8_t values[SYMBOLS];
+    size_t values_length;
+    uint8_t mask[WORD_BYTES];
+    size_t mask_length;
+    uint8_t scratch[LIST_BYTES + 1];
+    size_t scratch_length;
+    uint8_t payload[LISTED + 1];
+    size_t payload_length;
+};
+
+/* Such a request: the values of a payload's word, each of size 100, for inner kernel 1 and outer kernel 2. */
+static void sealed(struct list_request *r, const uint8_t *payload)
+{
+    uint8_t word[WORD_BYTES] = {0};
+    size_t i;
+
+    r->inner = 1;
+    r->list = LIST_PATHS;
+    r->values_length = SYMBOLS;
+    r->mask_length = WORD_BYTES;
+    r->scratch_length = LIST_BYTES + 1;
+    r->payload_length = LISTED + 1;
+    memset(r->scratch, 0xa5, sizeof r->scratch);
+    memset(r->payload, 0x5a, sizeof r->payload);
+    outcome(nospridda_information_mask(LISTED, r->mask, WORD_BYTES), NOSPRIDDA_ACCEPTED, 0, "the mask of a list");
+    outcome(nospridda_frame_encode(1, 2, r->mask, WORD_BYTES, payload, LISTED, word, sizeof word), NOSPRIDDA_ACCEPTED,
+            0, "the word of a list");
+    for (i = 0; i < SYMBOLS; i++) {
+        r->values[i] = (word[i / 8] >> (7 - i % 8)) & 1 ? -100 : 100;
+    }
+}
+
+static struct nospridda_penalty_outcome list_call(struct list_request *r)
+{
+    return nospridda_list_decode(r->inner, 2, r->list, r->values, r->values_length, r->mask, r->mask_length,
+                                 r->scratch, r->scratch_length, r->payload, r->payload_length);
+}
+
+/* Whether the whole of a buffer but its last byte holds one byte, and the last one another. */
+static int holds(const uint8_t *bytes, size_t length, uint8_t first, uint8_t last)
+{
+    size_t i;
+
+    for (i = 0; i + 1 < length; i++) {
+        if (bytes[i] != first) {
+            return 0;
+        }
+    }
+    return bytes[length - 1] == last;
+}
+
+/* A request that is refused by this number leaves both buffers. */
+static void list_refused(struct list_request *r, uint32_t number, size_t place, const char *what)
+{
+    penalty_outcome(list_call(r), number, place, 0, what);
+    expect(holds(r->scratch, sizeof r->scratch, 0xa5, 0xa5) && holds(r->payload, sizeof r->payload, 0x5a, 0x5a), what);
+}
+
+static void lists(void)
+{
+    struct list_request r;
+    uint8_t unlisted[LISTED];
+    size_t list;
+
+    /* With no noise; then three values of size 100 become 1, 2 and 4 on the wrong side. */
+    for (list = 1; list <= LIST_PATHS; list++) {
+        sealed(&r, listed);
+        r.list = list;
+        penalty_outcome(list_call(&r), NOSPRIDDA_ACCEPTED, 0, 0, "list decode");
+        expect(memcmp(r.payload, listed, LISTED) == 0 && r.payload[LISTED] == 0x5a, "the payload of a list");
+        expect(holds(r.scratch, sizeof r.scratch, 0, 0xa5), "the scratch of a list");
+        r.values[0] = (int8_t)(r.values[0] / -100);
+        r.values[77] = (int8_t)(r.values[77] / -50);
+        r.values[255] = (int8_t)(r.values[255] / -25);
+        penalty_outcome(list_call(&r), NOSPRIDDA_ACCEPTED, 0, 7, "list decode, three wrong signs");
+        expect(memcmp(r.payload, listed, LISTED) == 0, "the payload of a list, three wrong signs");
+    }
+
+    /* Buffers that are just long enough. */
+    sealed(&r, listed);
+    r.scratch_length = LIST_BYTES;
+    r.payload_length = LISTED;
+    penalty_outcome(list_call(&r), NOSPRIDDA_ACCEPTED, 0, 0, "list decode, short buffers");
+
+    /* A checksum that is one bit off, found with the only path: the scratch is zeros, the payload stays. */
+    memcpy(unlisted, listed, sizeof unlisted);
+    unlisted[LISTED - 1] ^= 1;
+    sealed(&r, unlisted);
+    r.list = 1;
+    penalty_outcome(list_call(&r), NOSPRIDDA_NO_PATH, 0, 0, "list decode, another checksum");
+    expect(holds(r.scratch, sizeof r.scratch, 0, 0xa5), "the scratch after 13");
+    expect(holds(r.payload, sizeof r.payload, 0x5a, 0x5a), "the payload after 13");
+}
+
+/* Each refusal, the later ones with what is spoiled already. */
+static void list_refusals(void)
+{
+    struct list_request r;
+
+    sealed(&r, listed);
+    r.values[3] = -128;
+    r.values[200] = -128;
+    list_refused(&r, NOSPRIDDA_VALUE_OUT_OF_RANGE, 3, "list decode, two values out of range");
+    r.scratch_length = LIST_BYTES - 1;
+    list_refused(&r, NOSPRIDDA_SHORT_OUTPUT, 0, "list decode, scratch of 8191 bytes");
+    r.scratch_length = LIST_BYTES;
+    r.payload_length = LISTED - 1;
+    list_refused(&r, NOSPRIDDA_SHORT_OUTPUT, 0, "list decode, room for 10 bytes");
+    outcome(nospridda_information_mask(2, r.mask, WORD_BYTES), NOSPRIDDA_ACCEPTED, 0, "the mask of two bytes");
+    list_refused(&r, NOSPRIDDA_NO_CHECKSUM, 0, "list decode, 16 phases");
+    memset(r.mask, 0, WORD_BYTES);
+    list_refused(&r, NOSPRIDDA_BAD_MASK, 0, "list decode, no phase");
+    r.mask_length = WORD_BYTES - 1;
+    list_refused(&r, NOSPRIDDA_WRONG_LENGTH, 0, "list decode, a mask of 31 bytes");
+    r.mask_length = WORD_BYTES;
+    r.values_length = SYMBOLS - 1;
+    list_refused(&r, NOSPRIDDA_WRONG_LENGTH, 0, "list decode, 255 values");
+    r.list = 0;
+    list_refused(&r, NOSPRIDDA_BAD_LIST, 0, "list decode, no path");
+    r.list = LIST_PATHS + 1;
+    list_refused(&r, NOSPRIDDA_BAD_LIST, 0, "list decode, nine paths");
+    r.inner = 3;
+    list_refused(&r, NOSPRIDDA_NO_KERNEL, 0, "list decode, kernel 3");
+}
+
 static void marks(void)
 {
     float amplitudes[SYMBOLS] = {1.0f, 0.015625f, 0.046875f, -8.0f};
@@ -295,7 +442,9 @@ int main(void)
     encode_and_undo(mask);
     decode(mask);
     frame_follow();
+    lists();
+    list_refusals();
     marks();
-    printf("all eleven functions answer through the header\n");
+    printf("all twelve functions answer through the header\n");
     return EXIT_SUCCESS;
 }
