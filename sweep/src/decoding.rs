@@ -35,7 +35,7 @@ pub fn sweep(tally: &mut Tally, kernels: &[Kernel]) {
 }
 
 /// A random invertible kernel of n symbols: every word is met once.
-fn invertible(random: &mut Random, n: usize) -> Block {
+pub fn invertible(random: &mut Random, n: usize) -> Block {
     loop {
         let rows: Vec<u16> = (0..n).map(|_| random.word() >> (16 - n)).collect();
         let words: Vec<u16> = (0..1usize << n)

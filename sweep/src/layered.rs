@@ -11,7 +11,7 @@ pub struct Block {
 
 impl Block {
     /// Bit j of the word of some symbols.
-    fn bit(&self, symbols: usize, j: usize) -> bool {
+    pub fn bit(&self, symbols: usize, j: usize) -> bool {
         (self.words[symbols] >> (self.n - 1 - j)) & 1 == 1
     }
 
@@ -44,7 +44,7 @@ impl Block {
 }
 
 /// What a value pays for bit 0 and for bit 1.
-fn pay(value: i32) -> [i32; 2] {
+pub fn pay(value: i32) -> [i32; 2] {
     [(-value).max(0), value.max(0)]
 }
 
@@ -122,7 +122,7 @@ fn word(inner: &Block, outer: &Block, symbols: &[bool]) -> Vec<bool> {
 
 /// The total of every word whose symbols agree with the first ones, `count` of them being free. The words are sums of
 /// those of single symbols, each by the sum above.
-fn totals_from(
+pub fn totals_from(
     inner: &Block,
     outer: &Block,
     values: &[i32],

@@ -17,6 +17,15 @@ pub struct WordOutcome {
     pub word: u16,
 }
 
+/// The outcome of list decode.
+#[repr(C)]
+#[derive(Clone, Copy, Debug, PartialEq, Eq)]
+pub struct PenaltyOutcome {
+    pub number: u32,
+    pub place: usize,
+    pub penalty: u32,
+}
+
 extern "C" {
     fn nospridda_kernel_encode(kernel: u8, symbols: u16) -> WordOutcome;
     fn nospridda_kernel_undo(kernel: u8, word: u16) -> WordOutcome;
@@ -82,6 +91,19 @@ extern "C" {
         payload: *mut u8,
         payload_length: usize,
     ) -> Outcome;
+    fn nospridda_list_decode(
+        inner: u8,
+        outer: u8,
+        list: usize,
+        values: *const i8,
+        values_length: usize,
+        mask: *const u8,
+        mask_length: usize,
+        scratch: *mut u8,
+        scratch_length: usize,
+        payload: *mut u8,
+        payload_length: usize,
+    ) -> PenaltyOutcome;
     fn nospridda_part_length(mask: *const u8, mask_length: usize, length: usize) -> usize;
     fn nospridda_information_mask(p: usize, mask: *mut u8, mask_length: usize) -> Outcome;
     fn nospridda_values_from_marks(
@@ -238,6 +260,33 @@ pub fn frame_decode(
             scores.len(),
             penalties.as_mut_ptr(),
             penalties.len(),
+            payload.as_mut_ptr(),
+            payload.len(),
+        )
+    }
+}
+
+pub fn list_decode(
+    inner: u8,
+    outer: u8,
+    list: usize,
+    values: &[i8],
+    mask: &[u8],
+    scratch: &mut [u8],
+    payload: &mut [u8],
+) -> PenaltyOutcome {
+    // Safe for every input, as with kernel follow.
+    unsafe {
+        nospridda_list_decode(
+            inner,
+            outer,
+            list,
+            values.as_ptr(),
+            values.len(),
+            mask.as_ptr(),
+            mask.len(),
+            scratch.as_mut_ptr(),
+            scratch.len(),
             payload.as_mut_ptr(),
             payload.len(),
         )

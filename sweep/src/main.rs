@@ -11,6 +11,8 @@ mod frames;
 mod kernels;
 mod layered;
 mod library;
+mod list;
+mod listing;
 mod marks;
 mod paper;
 mod plain;
@@ -50,7 +52,7 @@ fn sweep() -> ExitCode {
     let all: Vec<Kernel> = (0..3).map(Kernel::new).collect();
     let (mut tally, rest) = thread::scope(|scope| {
         let rest = scope.spawn(|| decoding_and_marks(&all));
-        (kernels_and_undoing(&all), rest.join().unwrap())
+        (kernels_undoing_and_lists(&all), rest.join().unwrap())
     });
     tally.add(rest);
     recorded::report(&mut tally);
@@ -61,12 +63,13 @@ fn sweep() -> ExitCode {
     }
 }
 
-fn kernels_and_undoing(all: &[Kernel]) -> Tally {
+fn kernels_undoing_and_lists(all: &[Kernel]) -> Tally {
     let mut tally = Tally::default();
     kernels::sweep(&mut tally, all);
     follow::sweep(&mut tally, all);
     side::sweep(&mut tally, all);
     frames::sweep(&mut tally, all);
+    listing::sweep(&mut tally, all);
     tally
 }
 

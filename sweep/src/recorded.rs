@@ -7,7 +7,7 @@ use std::collections::BTreeSet;
 use std::hint::black_box;
 use std::sync::Mutex;
 
-use crate::library::{self, Outcome, WordOutcome};
+use crate::library::{self, Outcome, PenaltyOutcome, WordOutcome};
 use crate::tally::Tally;
 
 const HEADER: &str = include_str!(concat!(
@@ -35,7 +35,7 @@ const fn job(name: &'static str, function: &'static str, numbers: &'static [u32]
 /// is recorded as 0, and as 1 where it was not.
 const SIDE: &str = "side_follow";
 
-const JOBS: [Job; 12] = [
+const JOBS: [Job; 13] = [
     job("kernel encode", "kernel_encode", &[0, 1]),
     job("kernel undo", "kernel_undo", &[0, 1]),
     job("kernel follow", "kernel_follow", &[0, 1, 2, 5, 6]),
@@ -48,18 +48,26 @@ const JOBS: [Job; 12] = [
     job("frame undo", "frame_undo", &[0, 1, 2, 3, 5, 9]),
     job("frame follow", "frame_follow", &[0, 1, 2, 5, 6]),
     job("frame decode", "frame_decode", &[0, 1, 2, 3, 5, 6]),
+    job(
+        "list decode",
+        "list_decode",
+        &[0, 1, 2, 3, 5, 6, 11, 12, 13],
+    ),
     job("payload part", "part_length", &[]),
     job("information mask", "information_mask", &[0, 5, 8]),
     job("values from marks", "values_from_marks", &[0, 2, 5, 7, 10]),
     job("side by side", SIDE, &[0, 1]),
 ];
 
+/// The highest number that a job can answer.
+const HIGHEST: usize = 13;
+
 /// The calls of one job.
 #[derive(Clone, Copy)]
 struct Calls {
-    /// By the number answered, 0 to 10.
-    by_number: [u64; 11],
-    /// With a number above 10.
+    /// By the number answered, 0 to the highest.
+    by_number: [u64; HIGHEST + 1],
+    /// With a number above it.
     above: u64,
     /// After which an input or a border was changed.
     strayed: u64,
@@ -67,7 +75,7 @@ struct Calls {
 
 static RECORD: Mutex<[Calls; JOBS.len()]> = Mutex::new(
     [Calls {
-        by_number: [0; 11],
+        by_number: [0; HIGHEST + 1],
         above: 0,
         strayed: 0,
     }; JOBS.len()],
@@ -88,7 +96,7 @@ fn record(function: &str, number: u32, kept: bool) {
 pub fn report(tally: &mut Tally) {
     tally.line(format_args!("calls by the number answered:"), 0);
     for (job, calls) in JOBS.iter().zip(RECORD.lock().unwrap().iter()) {
-        let met: Vec<u32> = (0..=10)
+        let met: Vec<u32> = (0..=HIGHEST as u32)
             .filter(|&n| calls.by_number[n as usize] > 0)
             .collect();
         let counts: Vec<String> = met
@@ -104,7 +112,7 @@ pub fn report(tally: &mut Tally) {
         tally.expect(
             met == can && calls.above == 0,
             format_args!(
-                "{} can answer {can:?}; it answered {met:?}, and {} calls a number above 10",
+                "{} can answer {can:?}; it answered {met:?}, and {} calls a number above {HIGHEST}",
                 job.name, calls.above
             ),
         );
@@ -332,6 +340,36 @@ pub fn frame_decode(
         third.hand_over(payload),
     ];
     record("frame_decode", outcome.number, kept == [true; 5]);
+    outcome
+}
+
+pub fn list_decode(
+    inner: u8,
+    outer: u8,
+    list: usize,
+    values: &[i8],
+    mask: &[u8],
+    scratch: &mut [u8],
+    payload: &mut [u8],
+) -> PenaltyOutcome {
+    let (mut y, mut m) = (Bordered::new(values), Bordered::new(mask));
+    let (mut first, mut second) = (Bordered::new(scratch), Bordered::new(payload));
+    let outcome = library::list_decode(
+        inner,
+        outer,
+        list,
+        y.buffer(),
+        m.buffer(),
+        first.buffer(),
+        second.buffer(),
+    );
+    let kept = [
+        y.holds(values),
+        m.holds(mask),
+        first.hand_over(scratch),
+        second.hand_over(payload),
+    ];
+    record("list_decode", outcome.number, kept == [true; 4]);
     outcome
 }
 

@@ -1,0 +1,762 @@
+//! List decode: its answer against all final paths, and every buffer.
+//!
+//! Which of several agreeing paths is answered is open: the payload must be that of one of them, with its penalty.
+use std::cell::RefCell;
+
+use crate::decoding::invertible;
+use crate::frame::{order, packed, placed, taken, unpacked, word, Bits};
+use crate::layered::{pay, Block};
+use crate::library::PenaltyOutcome;
+use crate::list::{agrees, checksum, list, list_over_all_words, with_checksum, Path, Tables};
+use crate::paper::Kernel;
+use crate::random::Random;
+use crate::recorded::{frame_decode, list_decode};
+use crate::tally::Tally;
+
+/// The bytes of scratch that end as zeros.
+const SCRATCH: usize = 8192;
+
+/// The sizes of payloads, in bits.
+const SIZES: [usize; 5] = [24, 64, 128, 200, 256];
+
+pub fn sweep(tally: &mut Tally, kernels: &[Kernel]) {
+    let mut random = Random::new(11);
+    let blocks: Vec<Block> = kernels
+        .iter()
+        .map(|kernel| Block {
+            n: 16,
+            words: kernel.words.clone(),
+        })
+        .collect();
+    let pairs = Pairs {
+        kernels,
+        blocks,
+        tables: RefCell::default(),
+    };
+    checksums(tally);
+    analogues(tally, &mut random);
+    frames(
+        tally,
+        &pairs,
+        &mut random,
+        "frames decoded by lists",
+        &SIZES,
+        &KINDS,
+    );
+    frames(
+        tally,
+        &pairs,
+        &mut random,
+        "the same, with ties",
+        &[24, 32],
+        &TIES,
+    );
+    several(tally, &pairs, &mut random);
+    no_kernel(tally, &pairs, &mut random);
+    lists(tally, &pairs, &mut random);
+    sizes(tally, &pairs, &mut random);
+    out_of_range(tally, &pairs, &mut random);
+    lengths(tally, &pairs, &mut random);
+    requests(tally, &pairs, &mut random);
+}
+
+/// The kernels, twice: for the double sum, and for the layers; and memory for these.
+struct Pairs<'a> {
+    kernels: &'a [Kernel],
+    blocks: Vec<Block>,
+    tables: RefCell<Tables>,
+}
+
+impl Pairs<'_> {
+    /// The word of some symbols.
+    fn word(&self, (inner, outer): (u8, u8), symbols: &Bits) -> Bits {
+        let kernels = self.kernels;
+        word(
+            &kernels[usize::from(inner)],
+            &kernels[usize::from(outer)],
+            symbols,
+        )
+    }
+}
+
+/// The check value of the CRC, and some by hand.
+fn checksums(tally: &mut Tally) {
+    let cases: [(&[u8], u16); 4] = [
+        (b"123456789", 0x29b1),
+        (b"", 0xffff),
+        (&[0], 0xe1f0),
+        (&[0xff, 0xff], 0),
+    ];
+    for (bytes, want) in cases {
+        let got = checksum(bytes);
+        tally.expect(
+            got == want,
+            format_args!("the checksum of {bytes:02x?}: wanted {want:04x}, got {got:04x}"),
+        );
+    }
+    tally.group("checksums", cases.len() as u64);
+}
+
+/// Small frames of unequal kernels: layer by layer against all words of the frame.
+fn analogues(tally: &mut Tally, random: &mut Random) {
+    let mut cases = 0;
+    for (n, w) in [(2, 3), (3, 2), (2, 4), (4, 2), (3, 4), (4, 3), (4, 4)] {
+        for most in 1..=8 {
+            for marks_of_four in 1..=4 {
+                let (inner, outer) = (invertible(random, n), invertible(random, w));
+                let limit = [1, 4, 100][random.between(0, 2) as usize];
+                let values: Vec<i32> = (0..n * w)
+                    .map(|_| i32::from(random.between(-limit, limit)))
+                    .collect();
+                let marked: Vec<bool> = (0..n * w)
+                    .map(|_| random.between(1, 4) <= marks_of_four)
+                    .collect();
+                let want = list_over_all_words(&inner, &outer, &values, &marked, most);
+                let got = list(
+                    &mut Tables::default(),
+                    &inner,
+                    &outer,
+                    &values,
+                    &marked,
+                    most,
+                );
+                tally.expect(
+                    want == got,
+                    format_args!(
+                        "a list of {most}, {n} by {w}, values {values:?}, marks {marked:?}: wanted {want:?}, got {got:?}"
+                    ),
+                );
+                cases += 1;
+            }
+        }
+    }
+    tally.group("lists of small frames, layers against all words", cases);
+}
+
+fn bytes(random: &mut Random, count: usize) -> Vec<u8> {
+    (0..count).map(|_| random.word() as u8).collect()
+}
+
+/// A number from low to high, both among them.
+fn number(random: &mut Random, low: usize, high: usize) -> usize {
+    random.wide(low as i32, high as i32) as usize
+}
+
+/// A mask of k phases: the first of the order, any, or any below some phase, so that those after it are unmarked.
+fn mask(random: &mut Random, order: &[usize], k: usize) -> Vec<u8> {
+    let mut marks = [false; 256];
+    if random.once_in(2) {
+        order[..k].iter().for_each(|&i| marks[i] = true);
+    } else {
+        let end = if random.once_in(2) {
+            256
+        } else {
+            number(random, k, 256)
+        };
+        while marks.iter().filter(|&&marked| marked).count() < k {
+            marks[number(random, 0, end - 1)] = true;
+        }
+    }
+    packed(&marks)
+}
+
+/// The kinds of values, and those with many equal penalties.
+const KINDS: [usize; 13] = [0, 1, 2, 3, 4, 5, 6, 7, 8, 9, 10, 11, 12];
+const TIES: [usize; 5] = [5, 6, 8, 11, 12];
+
+/// 256 values of some kind: of a sent word with no noise, with more and more of it, with ties, and of no word.
+fn values(random: &mut Random, kind: usize, sent: &Bits) -> Vec<i8> {
+    sent.map(|one| {
+        let y = match kind {
+            0 => random.between(1, 127),
+            1 => random.between(-20, 100),
+            2 => random.between(-30, 100),
+            3 => random.between(-40, 100),
+            4 => random.between(-60, 90),
+            5 => random.between(-1, 2),
+            6 => [0, 0, 0, 5, -5, 5][number(random, 0, 5)],
+            7 if random.once_in(8) => -127,
+            7 => 127,
+            8 => [0, 9][number(random, 0, 1)],
+            9 => random.between(-127, 127),
+            10 => 0,
+            11 if random.once_in(12) => -1,
+            _ => 1,
+        };
+        (if one { -y } else { y }) as i8
+    })
+    .to_vec()
+}
+
+#[derive(Clone)]
+struct Request {
+    pair: (u8, u8),
+    list: usize,
+    values: Vec<i8>,
+    mask: Vec<u8>,
+    /// What the two buffers hold before the call.
+    scratch: Vec<u8>,
+    payload: Vec<u8>,
+}
+
+/// What was found of a request that passes the checks.
+struct Found {
+    /// How many final paths there are.
+    paths: usize,
+    /// The places of those that agree.
+    agreeing: Vec<usize>,
+}
+
+impl Request {
+    /// A request with buffers of the length that it needs, or longer.
+    fn new(
+        random: &mut Random,
+        pair: (u8, u8),
+        list: usize,
+        values: &[i8],
+        mask: &[u8],
+    ) -> Request {
+        let mut request = Request {
+            pair,
+            list,
+            values: values.to_vec(),
+            mask: mask.to_vec(),
+            scratch: Vec::new(),
+            payload: Vec::new(),
+        };
+        let spare = [0, 0, 1, 77, SCRATCH][number(random, 0, 4)];
+        request.scratch = bytes(random, SCRATCH + spare);
+        let spare = [0, 0, 1, 9][number(random, 0, 3)];
+        request.payload = bytes(random, request.marked() / 8 + spare);
+        request
+    }
+
+    fn marked(&self) -> usize {
+        let ones = self.mask.iter().map(|byte| byte.count_ones());
+        ones.sum::<u32>() as usize
+    }
+
+    /// The refusal that the checks before all decoding give.
+    fn refusal(&self) -> Option<PenaltyOutcome> {
+        let k = self.marked();
+        let offender = self.values.iter().position(|&y| y == -128);
+        let conditions = [
+            (self.pair.0 > 2 || self.pair.1 > 2, 1),
+            (self.list < 1 || self.list > 8, 11),
+            (self.values.len() != 256 || self.mask.len() != 32, 2),
+            (k == 0 || k % 8 != 0, 3),
+            (k < 24, 12),
+            (
+                self.payload.len() < k / 8 || self.scratch.len() < SCRATCH,
+                5,
+            ),
+            (offender.is_some(), 6),
+        ];
+        let number = conditions.iter().find(|c| c.0)?.1;
+        Some(PenaltyOutcome {
+            number,
+            place: if number == 6 { offender? } else { 0 },
+            penalty: 0,
+        })
+    }
+
+    /// The final paths of a request that passes the checks.
+    fn paths(&self, pairs: &Pairs) -> Vec<Path> {
+        let values: Vec<i32> = self.values.iter().map(|&y| i32::from(y)).collect();
+        list(
+            &mut pairs.tables.borrow_mut(),
+            &pairs.blocks[usize::from(self.pair.0)],
+            &pairs.blocks[usize::from(self.pair.1)],
+            &values,
+            &unpacked(&self.mask),
+            self.list,
+        )
+    }
+
+    /// The payload of a path.
+    fn payload_of(&self, path: &Path) -> Vec<u8> {
+        taken(
+            &unpacked(&self.mask),
+            &std::array::from_fn(|i| path.symbols[i]),
+        )
+    }
+
+    /// What the word of a payload pays.
+    fn paid(&self, pairs: &Pairs, payload: &[u8]) -> i32 {
+        let word = pairs.word(self.pair, &placed(&unpacked(&self.mask), payload));
+        let paid = self.values.iter().zip(word);
+        paid.map(|(&y, bit)| pay(y.into())[usize::from(bit)]).sum()
+    }
+
+    /// Turns the values to another payload: what was a word of the frame is then that word plus the one of this payload.
+    fn turn(&mut self, pairs: &Pairs, payload: &[u8]) {
+        let word = pairs.word(self.pair, &placed(&unpacked(&self.mask), payload));
+        for (y, bit) in self.values.iter_mut().zip(word) {
+            if bit {
+                *y = -*y;
+            }
+        }
+    }
+
+    /// The outcome and both buffers after a call.
+    fn call(&self) -> (PenaltyOutcome, Vec<u8>, Vec<u8>) {
+        let (mut scratch, mut payload) = (self.scratch.clone(), self.payload.clone());
+        let outcome = list_decode(
+            self.pair.0,
+            self.pair.1,
+            self.list,
+            &self.values,
+            &self.mask,
+            &mut scratch,
+            &mut payload,
+        );
+        (outcome, scratch, payload)
+    }
+
+    fn wrong(&self, tally: &mut Tally, what: &str, why: std::fmt::Arguments) {
+        tally.wrong(format_args!(
+            "{what}, pair {:?}, list {}, {} values, mask {:02x?}, rooms {} and {}: {why}",
+            self.pair,
+            self.list,
+            self.values.len(),
+            self.mask,
+            self.scratch.len(),
+            self.payload.len()
+        ));
+    }
+
+    /// Outcome and buffers. What was found, where the request passes the checks.
+    fn compare(&self, tally: &mut Tally, what: &str, pairs: &Pairs) -> Option<Found> {
+        let (got, scratch, payload) = self.call();
+        if let Some(want) = self.refusal() {
+            if got != want || scratch != self.scratch || payload != self.payload {
+                let kept = [scratch == self.scratch, payload == self.payload];
+                self.wrong(
+                    tally,
+                    what,
+                    format_args!(
+                        "wanted {want:?}, got {got:?}; scratch and payload kept: {kept:?}"
+                    ),
+                );
+            }
+            return None;
+        }
+        let paths = self.paths(pairs);
+        let bytes = self.marked() / 8;
+        let answers: Vec<(Vec<u8>, i32)> = paths
+            .iter()
+            .map(|path| (self.payload_of(path), path.penalty))
+            .collect();
+        let agreeing: Vec<usize> = (0..paths.len())
+            .filter(|&i| agrees(&answers[i].0))
+            .collect();
+        // The number and the first bytes of the payload; 13 leaves them.
+        let answered = (payload[..bytes].to_vec(), got.penalty as i32);
+        let right = if agreeing.is_empty() {
+            (got.number, got.penalty) == (13, 0) && payload == self.payload
+        } else {
+            got.number == 0
+                && agreeing.iter().any(|&i| answers[i] == answered)
+                && self.paid(pairs, &answered.0) == answered.1
+        };
+        let kept = payload[bytes..] == self.payload[bytes..]
+            && scratch[SCRATCH..] == self.scratch[SCRATCH..]
+            && scratch[..SCRATCH] == [0; SCRATCH];
+        if !right || !kept || got.place != 0 {
+            self.wrong(
+                tally,
+                what,
+                format_args!(
+                    "got {got:?} and {answered:02x?}, buffers right: {kept}; final paths {answers:02x?}, \
+                     agreeing {agreeing:?}"
+                ),
+            );
+        }
+        if self.list == 1 {
+            self.beside_frame_decode(tally, what, got, &answered.0);
+        }
+        Some(Found {
+            paths: paths.len(),
+            agreeing,
+        })
+    }
+
+    /// With one path it is frame decode's payload and last penalty, where the checksum agrees.
+    fn beside_frame_decode(
+        &self,
+        tally: &mut Tally,
+        what: &str,
+        got: PenaltyOutcome,
+        answered: &[u8],
+    ) {
+        let (mut scores, mut penalties) = ([0; 256], [0; 256]);
+        let mut payload = vec![0; self.marked() / 8];
+        let single = frame_decode(
+            self.pair.0,
+            self.pair.1,
+            &self.values,
+            &self.mask,
+            &mut scores,
+            &mut penalties,
+            &mut payload,
+        );
+        let same = if agrees(&payload) {
+            got.number == 0 && payload == answered && got.penalty == u32::from(penalties[255])
+        } else {
+            got.number == 13
+        };
+        if single.number != 0 || !same {
+            self.wrong(
+                tally,
+                what,
+                format_args!(
+                    "{got:?} with {answered:02x?}, but frame decode has {single:?}, {payload:02x?} and {}",
+                    penalties[255]
+                ),
+            );
+        }
+    }
+}
+
+/// What was met among the requests that pass the checks.
+#[derive(Default)]
+struct Met {
+    /// By the place of the first path that agrees.
+    places: [u64; 8],
+    refused: u64,
+    /// With several that agree.
+    several: u64,
+}
+
+impl Met {
+    fn add(&mut self, found: &Found) {
+        match found.agreeing[..] {
+            [] => self.refused += 1,
+            [first, ..] => self.places[first] += 1,
+        }
+        self.several += u64::from(found.agreeing.len() > 1);
+    }
+
+    fn report(&self, tally: &mut Tally) {
+        tally.line(
+            format_args!(
+                "of them, by the place of the first path that agrees: {:?}; several agree: {}; none: {}",
+                self.places, self.several, self.refused
+            ),
+            0,
+        );
+    }
+}
+
+/// All pairs with every length of the list and every size, the kinds of values in turn. Two frames of three are turned to
+/// another payload, so that the checksum of some final path, any of them, agrees; but where ties are settled by symbols, it
+/// may not be kept then.
+fn frames(
+    tally: &mut Tally,
+    pairs: &Pairs,
+    random: &mut Random,
+    name: &str,
+    sizes: &[usize],
+    kinds: &[usize],
+) {
+    let order = order(&pairs.kernels[2]);
+    let mut met = Met::default();
+    let mut cases = 0;
+    for (round, &k) in sizes.iter().enumerate() {
+        for turn in 0..72 {
+            let pair = ((turn % 3) as u8, (turn / 3 % 3) as u8);
+            let mask = mask(random, &order, k);
+            let mut sent = bytes(random, k / 8);
+            if !random.once_in(6) {
+                sent = with_checksum(&sent);
+            }
+            let word = pairs.word(pair, &placed(&unpacked(&mask), &sent));
+            let values = values(random, kinds[(turn + 3 * round) % kinds.len()], &word);
+            let mut request = Request::new(random, pair, 1 + turn / 9, &values, &mask);
+            if !random.once_in(3) {
+                let paths = request.paths(pairs);
+                let from = request.payload_of(&paths[number(random, 0, paths.len() - 1)]);
+                let to = match random.between(0, 3) {
+                    0 => with_checksum(&bytes(random, k / 8)),
+                    _ => with_checksum(&from),
+                };
+                let other: Vec<u8> = from.iter().zip(&to).map(|(a, b)| a ^ b).collect();
+                request.turn(pairs, &other);
+            }
+            let found = request.compare(tally, name, pairs).unwrap();
+            tally.expect(
+                found.paths == request.list,
+                format_args!("a list of {} has {} paths", request.list, found.paths),
+            );
+            met.add(&found);
+            cases += 1;
+        }
+    }
+    tally.group(name, cases);
+    met.report(tally);
+    tally.expect(
+        met.refused > 0 && met.places.iter().all(|&count| count > 0),
+        format_args!("{name}: not every place of a list was met, or not 13"),
+    );
+}
+
+/// Two payloads with a right checksum whose words the values hardly tell apart: they differ by the polynomial.
+fn several(tally: &mut Tally, pairs: &Pairs, random: &mut Random) {
+    let order = order(&pairs.kernels[2]);
+    let mut met = Met::default();
+    let turns = 36;
+    for turn in 0..turns {
+        let pair = ((turn % 3) as u8, (turn / 3 % 3) as u8);
+        let k = SIZES[number(random, 0, 2)];
+        let mut marks = [false; 256];
+        order[..k].iter().for_each(|&i| marks[i] = true);
+        let first = with_checksum(&bytes(random, k / 8));
+        let shift = number(random, 0, k - 17);
+        let mut polynomial = vec![false; k];
+        for i in [0, 4, 11, 16] {
+            polynomial[shift + i] = true;
+        }
+        let second: Vec<u8> = first
+            .iter()
+            .zip(packed(&polynomial))
+            .map(|(a, b)| a ^ b)
+            .collect();
+        tally.expect(
+            agrees(&first) && agrees(&second),
+            format_args!("{first:02x?} and {second:02x?} do not both agree"),
+        );
+        let words = [first, second].map(|payload| pairs.word(pair, &placed(&marks, &payload)));
+        let values: Vec<i8> = (0..256)
+            .map(|i| match words.each_ref().map(|word| word[i]) {
+                [false, false] => 90,
+                [true, true] => -90,
+                _ => random.between(-1, 1) as i8,
+            })
+            .collect();
+        let list = number(random, 2, 8);
+        let request = Request::new(random, pair, list, &values, &packed(&marks));
+        met.add(&request.compare(tally, "several agree", pairs).unwrap());
+    }
+    tally.group("frames with two near payloads that agree", turns as u64);
+    met.report(tally);
+    tally.expect(
+        met.several > 0,
+        format_args!("no list had several paths that agree"),
+    );
+}
+
+/// A request that passes the checks: any pair and list, small values, and from 24 phases on.
+fn request(random: &mut Random) -> Request {
+    let pair = (random.between(0, 2) as u8, random.between(0, 2) as u8);
+    let values: Vec<i8> = (0..256).map(|_| random.between(-9, 9) as i8).collect();
+    let mut marks = [false; 256];
+    marks[..8 * number(random, 3, 32)].fill(true);
+    let list = number(random, 1, 8);
+    Request::new(random, pair, list, &values, &packed(&marks))
+}
+
+/// Compares a request that must be refused.
+fn compare_refused(tally: &mut Tally, what: &str, pairs: &Pairs, request: &Request) {
+    tally.expect(
+        request.refusal().is_some(),
+        format_args!("{what}: not refused"),
+    );
+    request.compare(tally, what, pairs);
+}
+
+/// Numbers that no kernel has, as inner and as outer kernel, alone and with every other fault.
+fn no_kernel(tally: &mut Tally, pairs: &Pairs, random: &mut Random) {
+    let mut cases = 0;
+    for kernel in 3..=u8::MAX {
+        let other = random.between(0, 2) as u8;
+        for pair in [(kernel, other), (other, kernel)] {
+            let mut request = request(random);
+            request.pair = pair;
+            compare_refused(tally, "no kernel", pairs, &request);
+            request.list = 9;
+            request.values[7] = -128;
+            request.values.push(0);
+            request.mask.fill(0);
+            request.payload.clear();
+            request.scratch.truncate(SCRATCH - 1);
+            compare_refused(tally, "no kernel and more", pairs, &request);
+            cases += 2;
+        }
+    }
+    tally.group("list decode, kernels 3 to 255 refused", cases);
+}
+
+/// Lengths of the list outside 1 to 8, alone and with every later fault.
+fn lists(tally: &mut Tally, pairs: &Pairs, random: &mut Random) {
+    let mut cases = 0;
+    let far =
+        [0, 1 << 8, 1 << 16, 1 << 32, 1 << 63].map(|high: usize| (0..9).map(move |low| high + low));
+    let near = 9..256;
+    let outside = near.chain(far.into_iter().flatten()).chain([usize::MAX]);
+    for list in outside.filter(|list| !(1..=8).contains(list)) {
+        let mut request = request(random);
+        request.list = list;
+        compare_refused(tally, "a list too long or of none", pairs, &request);
+        request.values[9] = -128;
+        request.mask.truncate(31);
+        request.scratch.clear();
+        compare_refused(
+            tally,
+            "a list too long or of none, and more",
+            pairs,
+            &request,
+        );
+        cases += 2;
+    }
+    tally.group("list decode, lengths of the list", cases);
+}
+
+/// Every count of marked phases that is refused, alone and with every later fault; and 24, the least.
+fn sizes(tally: &mut Tally, pairs: &Pairs, random: &mut Random) {
+    let mut cases = 0;
+    for k in 0..=256 {
+        let mut marks = [false; 256];
+        while marks.iter().filter(|&&marked| marked).count() < k {
+            marks[number(random, 0, 255)] = true;
+        }
+        let mut request = request(random);
+        request.mask = packed(&marks);
+        request.payload = bytes(random, k / 8);
+        if request.refusal().is_none() && k != 24 {
+            continue;
+        }
+        request.compare(tally, "a size", pairs);
+        request.values[200] = -128;
+        request.payload.pop();
+        request.scratch.pop();
+        compare_refused(tally, "a size and more", pairs, &request);
+        cases += 2;
+    }
+    tally.group("list decode, counts of marked phases", cases);
+}
+
+/// A value of -128 at every place, alone and with a second one above it.
+fn out_of_range(tally: &mut Tally, pairs: &Pairs, random: &mut Random) {
+    let mut cases = 0;
+    for place in 0..256 {
+        let mut request = request(random);
+        request.values[place] = -128;
+        compare_refused(tally, "-128", pairs, &request);
+        request.values[place + (255 - place) / 2] = -128;
+        compare_refused(tally, "-128 twice", pairs, &request);
+        cases += 2;
+    }
+    let mut request = request(random);
+    request.values.fill(-127);
+    request.compare(tally, "all -127", pairs);
+    tally.group("list decode, a value out of range", cases + 1);
+}
+
+/// Every combination of lengths, right and wrong, with a mask of 256 phases, 255, 16 and none.
+fn lengths(tally: &mut Tally, pairs: &Pairs, random: &mut Random) {
+    let mut cases = 0;
+    let first = request(random);
+    let longest = bytes(random, SCRATCH + 1);
+    for count in [0, 1, 255, 256, 257, 512] {
+        for length in [0, 1, 31, 32, 33, 64] {
+            for (scratch, payload) in [
+                (SCRATCH, 32),
+                (SCRATCH, 31),
+                (SCRATCH + 1, 0),
+                (SCRATCH - 1, 32),
+                (SCRATCH - 1, 33),
+                (0, 32),
+                (0, 0),
+            ] {
+                for marked in [256, 255, 16, 0] {
+                    let mut request = first.clone();
+                    request.values.resize(count, 3);
+                    let marks: Vec<bool> = (0..8 * length).map(|i| i < marked).collect();
+                    request.mask = packed(&marks);
+                    request.scratch = longest[..scratch].to_vec();
+                    request.payload = longest[..payload].to_vec();
+                    // Accepted requests have groups of their own.
+                    if request.refusal().is_some() {
+                        request.compare(tally, "lengths", pairs);
+                        cases += 1;
+                    }
+                }
+            }
+        }
+    }
+    tally.group("list decode, lengths of all buffers", cases);
+}
+
+/// Requests with some of their parts spoiled: the first condition that holds, its place, and every buffer.
+fn requests(tally: &mut Tally, pairs: &Pairs, random: &mut Random) {
+    let turns = 3000;
+    let mut met = [0u64; 14];
+    for _ in 0..turns {
+        let mut request = request(random);
+        spoil(random, &mut request);
+        match request.refusal() {
+            Some(refusal) => {
+                request.compare(tally, "a request", pairs);
+                met[refusal.number as usize] += 1;
+            }
+            None => {
+                // Some frames of a right checksum, with no noise.
+                if random.once_in(2) {
+                    let sent = with_checksum(&bytes(random, request.marked() / 8));
+                    request.values.fill(4);
+                    request.turn(pairs, &sent);
+                }
+                let found = request.compare(tally, "a request", pairs).unwrap();
+                met[if found.agreeing.is_empty() { 13 } else { 0 }] += 1;
+            }
+        }
+    }
+    tally.group("requests of list decode", turns);
+    tally.line(format_args!("of them, by the number answered: {met:?}"), 0);
+    tally.expect(
+        [0, 1, 2, 3, 5, 6, 11, 12, 13].iter().all(|&n| met[n] > 0),
+        format_args!("not every condition was met: {met:?}"),
+    );
+}
+
+/// Each part of a request is spoiled now and then.
+fn spoil(random: &mut Random, request: &mut Request) {
+    if random.once_in(8) {
+        request.pair.0 = random.word() as u8;
+    }
+    if random.once_in(8) {
+        request.pair.1 = random.between(0, 4) as u8;
+    }
+    if random.once_in(4) {
+        request.list = [0, 9, 10, 257, 1 << 32][number(random, 0, 4)];
+    }
+    if random.once_in(5) {
+        request.values.resize(number(random, 254, 258), 0);
+    }
+    for _ in 0..random.between(0, 2) {
+        let at = number(random, 0, request.values.len() - 1);
+        request.values[at] = -128;
+    }
+    if random.once_in(5) {
+        request.mask.resize(number(random, 30, 34), 0xff);
+    }
+    if random.once_in(4) {
+        let at = number(random, 0, request.mask.len() - 1);
+        request.mask[at] = random.word() as u8;
+    }
+    if random.once_in(5) {
+        let bytes = number(random, 0, 3);
+        request.mask.fill(0);
+        request.mask[..bytes].fill(0xff);
+    }
+    let k = request.marked();
+    request.payload = bytes(random, k / 8 + 2);
+    if random.once_in(5) {
+        request.payload.truncate((k / 8).saturating_sub(1));
+    }
+    if random.once_in(5) {
+        request
+            .scratch
+            .truncate([0, 4096, SCRATCH - 1][number(random, 0, 2)]);
+    }
+}
