@@ -2,9 +2,11 @@
 //! with status 1 where a case is wrong.
 //!
 //! `sweep bench` prints times; `sweep calls JOB KERNEL COUNT` only makes calls, for a count of instructions. KERNEL is a
-//! pair such as `2,2` for a job of frames, and `-` for a job that takes none.
+//! pair such as `2,2` for a job of frames, and `-` for a job that takes none. `sweep errors` prints how many noisy frames
+//! frame decode and lists of several lengths get wrong.
 mod bench;
 mod decoding;
+mod errors;
 mod follow;
 mod frame;
 mod frames;
@@ -39,9 +41,10 @@ fn main() -> ExitCode {
     match words[..] {
         [] => sweep(),
         ["bench"] => bench::times(),
+        ["errors"] => errors::count(),
         ["calls", job, kernel, count] => bench::calls(job, kernel, count),
         _ => {
-            eprintln!("usage: sweep [bench | calls JOB KERNEL COUNT]");
+            eprintln!("usage: sweep [bench | errors | calls JOB KERNEL COUNT]");
             ExitCode::from(2)
         }
     }
