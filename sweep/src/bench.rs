@@ -10,9 +10,10 @@ use plain_decoder::Decoder;
 use crate::frame::bit_of;
 use crate::library::{
     frame_decode, frame_encode, frame_follow, frame_undo, information_mask, kernel_encode,
-    kernel_follow, kernel_follow_hadamard, kernel_undo, part_length, values_from_marks,
-    word_by_bits, word_by_rows,
+    kernel_follow, kernel_follow_hadamard, kernel_undo, list_decode, part_length,
+    values_from_marks, word_by_bits, word_by_rows,
 };
+use crate::list::with_checksum;
 use crate::paper::Kernel;
 use crate::product::value;
 use crate::random::Random;
@@ -28,7 +29,7 @@ const PAYLOAD: usize = 16;
 const SCALE: f32 = 32.0;
 
 /// The library's jobs and a kernel's word by whole rows, what each is called with, and what is timed beside it.
-const JOBS: [(&str, &[&str], &str); 12] = [
+const JOBS: [(&str, &[&str], &str); 16] = [
     ("kernel-encode", KERNELS, "-"),
     ("kernel-undo", KERNELS, "-"),
     ("word-by-rows", KERNELS, "word-by-bits"),
@@ -38,6 +39,10 @@ const JOBS: [(&str, &[&str], &str); 12] = [
     ("frame-undo", PAIRS, "-"),
     ("frame-follow", PAIRS, "-"),
     ("frame-decode", PAIRS, "plain-decode"),
+    ("list-decode-1", PAIRS, "frame-decode"),
+    ("list-decode-2", PAIRS, "frame-decode"),
+    ("list-decode-4", PAIRS, "frame-decode"),
+    ("list-decode-8", PAIRS, "frame-decode"),
     ("part-length", NO_KERNEL, "-"),
     ("information-mask", NO_KERNEL, "-"),
     ("values-from-marks", NO_KERNEL, "sweep-values"),
@@ -63,6 +68,7 @@ struct Inputs {
     words: Vec<u16>,
     values: Vec<Values>,
     mask: [u8; 32],
+    /// They end in their checksum.
     payloads: Vec<[u8; PAYLOAD]>,
     /// The words of the payloads.
     frames: Vec<[u8; 32]>,
@@ -82,7 +88,10 @@ impl Inputs {
         let mut mask = [0; 32];
         information_mask(PAYLOAD, &mut mask);
         let values = inputs(|| std::array::from_fn(|_| random.wide(-LIMIT, LIMIT)));
-        let payloads = inputs(|| std::array::from_fn(|_| random.word() as u8));
+        let payloads: Vec<[u8; PAYLOAD]> = inputs(|| {
+            let payload: [u8; PAYLOAD] = std::array::from_fn(|_| random.word() as u8);
+            with_checksum(&payload).try_into().unwrap()
+        });
         let amplitudes =
             inputs(|| std::array::from_fn(|_| f32::from(random.between(-4096, 4096)) / 1024.0));
         let symbols = inputs(|| std::array::from_fn(|_| random.word() as u8));
@@ -117,6 +126,7 @@ impl Inputs {
         self.kernel_job(job, count, out)
             || self.word_job(job, count, out)
             || self.value_job(job, count, out)
+            || self.list_job(job, count, out)
             || self.other_job(job, count, out)
             || self.plain_job(job, count, out)
             || self.sweep_job(job, count, out)
@@ -197,6 +207,23 @@ impl Inputs {
         true
     }
 
+    /// List decode; the name ends in the length of the list.
+    #[inline(never)]
+    #[rustfmt::skip]
+    fn list_job(&self, job: &str, count: u64, out: &mut Outputs) -> bool {
+        let Some(list) = job.strip_prefix("list-decode-").and_then(|list| list.parse().ok()) else {
+            return false;
+        };
+        let (inner, outer, mask) = (self.inner, self.outer, &self.mask);
+        let Outputs { scratch, bytes, .. } = out;
+        each(count, |i| {
+            let values = &self.received[i];
+            black_box(list_decode(inner, outer, list, values, mask, scratch, bytes));
+            black_box((&mut *scratch, &mut *bytes));
+        });
+        true
+    }
+
     /// Masks, and marks.
     #[inline(never)]
     fn other_job(&self, job: &str, count: u64, out: &mut Outputs) -> bool {
@@ -273,6 +300,8 @@ struct Outputs {
     penalties: Box<[u16; 256]>,
     values: Box<[i8; 256]>,
     bytes: Vec<u8>,
+    /// Lent to list decode.
+    scratch: Vec<u8>,
 }
 
 impl Outputs {
@@ -283,6 +312,7 @@ impl Outputs {
             penalties: Box::new([0; 256]),
             values: Box::new([0; 256]),
             bytes: vec![0; 32],
+            scratch: vec![0; 8192],
         }
     }
 }
@@ -318,6 +348,7 @@ fn nanoseconds(inputs: &Inputs, job: &str) -> f64 {
         "kernel-encode" | "kernel-undo" | "word-by-rows" => 1_000_000,
         "frame-follow" | "frame-decode" | "plain-decode" => 500,
         "sweep-follow" | "sweep-values" => INPUTS as u64,
+        _ if job.starts_with("list-decode-") => INPUTS as u64,
         _ => 10_000,
     };
     (0..9)
