@@ -360,7 +360,7 @@ static void lists(void)
     unlisted[LISTED - 1] ^= 1;
     sealed(&r, unlisted);
     r.list = 1;
-    penalty_outcome(list_call(&r), NOSPRIDDA_NO_PATH, 0, 0, "list decode, another checksum");
+    penalty_outcome(list_call(&r), NOSPRIDDA_NO_AGREEING_PATH, 0, 0, "list decode, another checksum");
     expect(holds(r.scratch, sizeof r.scratch, 0, 0xa5), "the scratch after 13");
     expect(holds(r.payload, sizeof r.payload, 0x5a, 0x5a), "the payload after 13");
 }
@@ -380,7 +380,7 @@ static void list_refusals(void)
     r.payload_length = LISTED - 1;
     list_refused(&r, NOSPRIDDA_SHORT_OUTPUT, 0, "list decode, room for 10 bytes");
     outcome(nospridda_information_mask(2, r.mask, WORD_BYTES), NOSPRIDDA_ACCEPTED, 0, "the mask of two bytes");
-    list_refused(&r, NOSPRIDDA_NO_CHECKSUM, 0, "list decode, 16 phases");
+    list_refused(&r, NOSPRIDDA_FEW_MARKS, 0, "list decode, 16 phases");
     memset(r.mask, 0, WORD_BYTES);
     list_refused(&r, NOSPRIDDA_BAD_MASK, 0, "list decode, no phase");
     r.mask_length = WORD_BYTES - 1;
@@ -389,9 +389,9 @@ static void list_refusals(void)
     r.values_length = SYMBOLS - 1;
     list_refused(&r, NOSPRIDDA_WRONG_LENGTH, 0, "list decode, 255 values");
     r.list = 0;
-    list_refused(&r, NOSPRIDDA_BAD_LIST, 0, "list decode, no path");
+    list_refused(&r, NOSPRIDDA_WRONG_LIST_SIZE, 0, "list decode, no path");
     r.list = LIST_PATHS + 1;
-    list_refused(&r, NOSPRIDDA_BAD_LIST, 0, "list decode, nine paths");
+    list_refused(&r, NOSPRIDDA_WRONG_LIST_SIZE, 0, "list decode, nine paths");
     r.inner = 3;
     list_refused(&r, NOSPRIDDA_NO_KERNEL, 0, "list decode, kernel 3");
 }

@@ -137,7 +137,7 @@ static struct nospridda_penalty_outcome listed(size_t list, const int8_t *values
         print_bytes("       ", payload, PAYLOAD_BYTES);
         printf("                 penalty %u\n", (unsigned)outcome.penalty);
     } else {
-        expect(outcome.number == NOSPRIDDA_NO_PATH, "the only refusal is that of the checksum");
+        expect(outcome.number == NOSPRIDDA_NO_AGREEING_PATH, "the only refusal is that of the checksum");
         printf("list of %u:       refused, number %u\n", (unsigned)list, (unsigned)outcome.number);
     }
     return outcome;

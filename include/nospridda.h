@@ -81,15 +81,15 @@ enum nospridda_number {
     NOSPRIDDA_WRONG_LENGTH = 2,       /* an input other than a payload has not the length that its job names */
     NOSPRIDDA_BAD_MASK = 3,           /* a mask marks no phase, or a count that is not a multiple of 8 */
     NOSPRIDDA_WRONG_PAYLOAD = 4,      /* a payload to encode has not the bytes that its mask asks for */
-    NOSPRIDDA_SHORT_OUTPUT = 5,       /* an output buffer is shorter than the job needs */
+    NOSPRIDDA_SHORT_OUTPUT = 5,       /* an output buffer, or scratch, is shorter than the job needs */
     NOSPRIDDA_VALUE_OUT_OF_RANGE = 6, /* a value lies outside the job's range; place: the lowest such value */
     NOSPRIDDA_NOT_FINITE = 7,         /* a heard amplitude is NaN or infinite; place: the lowest such amplitude */
     NOSPRIDDA_WRONG_SIZE = 8,         /* a payload size for the information mask is outside 1 to 32 */
     NOSPRIDDA_FROZEN_ONE = 9,         /* a word to undo has symbol 1 at an unmarked phase; place: the lowest such phase */
     NOSPRIDDA_BAD_SCALE = 10,         /* the scale of values from marks is not a finite number above zero */
-    NOSPRIDDA_BAD_LIST = 11,          /* a count of paths for list decode is outside 1 to 8 */
-    NOSPRIDDA_NO_CHECKSUM = 12,       /* a mask for list decode marks fewer than 24 phases: a checksum and a byte */
-    NOSPRIDDA_NO_PATH = 13            /* no final path of list decode has a checksum that agrees; found last */
+    NOSPRIDDA_WRONG_LIST_SIZE = 11,   /* a count of paths for list decode is outside 1 to 8 */
+    NOSPRIDDA_FEW_MARKS = 12,         /* a mask for list decode marks fewer than 24 phases: a checksum and a byte */
+    NOSPRIDDA_NO_AGREEING_PATH = 13   /* no final path of list decode has a checksum that agrees; found last */
 };
 
 /* The outcome of a job without a word: the number, and the place that a
