@@ -20,7 +20,7 @@ use Rattle.polar.specs.Exact.{ExactScore, ExactPenalty}
 use Rattle.polar.proofs.Least.{least-le, least-at, best-is, score-least}
 use Rattle.polar.proofs.Values.{penalty-next}
 use Rattle.polar.proofs.Follow.{length-decode, decode-at}
-use Rattle.list.specs.Sort.{insert, sort, order}
+use Rattle.list.specs.Sort.{insert, sort, inOrder}
 use Rattle.list.specs.Ahead.{All}
 use Rattle.list.specs.Paths.{phase, paths, candidate, marks}
 use Rattle.list.proofs.Sort.{all-at, all-take, pick}
@@ -47,7 +47,7 @@ module _ (C : Code) (m : Costs) (mark : ℕ → Bool) (L : ℕ) where
   unmarked-next n e = ap (λ b. phase (least C m) L b (paths C m mark L n)) e
 
   marked-next : (n : ℕ) → mark n ≡ true
-      → let ps = paths C m mark L n in paths C m mark L (suc n) ≡ map (candidate ps) (take L (order (λ c. least C m (candidate ps c)) (2 * length ps)))
+      → let ps = paths C m mark L n in paths C m mark L (suc n) ≡ map (candidate ps) (take L (inOrder (λ c. least C m (candidate ps c)) (2 * length ps)))
   unfolding paths
   marked-next n e = ap (λ b. phase (least C m) L b (paths C m mark L n)) e ∙ phase-order (least C m) L (paths C m mark L n)
 
@@ -77,7 +77,7 @@ module _ (C : Code) (m : Costs) (mark : ℕ → Bool) (L : ℕ) where
   pub next-count : (n : ℕ) → mark n ≡ true → length (paths C m mark L (suc n)) ≡ min L (2 * length (paths C m mark L n))
   next-count n e =
       let ps = paths C m mark L n in
-      let o = order (λ c. least C m (candidate ps c)) (2 * length ps) in
+      let o = inOrder (λ c. least C m (candidate ps c)) (2 * length ps) in
       ap (λ (l : List (List Bool)). length l) (marked-next C m mark L n e)
       ∙ length-map (take L o) (candidate ps)
       ∙ length-take L o
@@ -123,7 +123,7 @@ phase-long penalty L n true ps a =
     let key : ℕ → ℕ = λ c. penalty (candidate ps c) in
     let k = 2 * length ps in
     rw (phase-order penalty L ps)
-    (all-map (λ c. c < k) (Long (suc n)) (candidate ps) (long-candidate n ps a) (take L (order key k)) (all-take (λ c. c < k) L (order key k) (order-all key k)))
+    (all-map (λ c. c < k) (Long (suc n)) (candidate ps) (long-candidate n ps a) (take L (inOrder key k)) (all-take (λ c. c < k) L (inOrder key k) (order-all key k)))
 phase-long penalty L n false ps a = all-map (Long n) (Long (suc n)) (λ p. p ++ (false ∷ [])) (λ p q. long-next n p false q) ps a
 
 module _ (C : Code) (m : Costs) (mark : ℕ → Bool) (L : ℕ) where
@@ -180,7 +180,7 @@ signs a b = go (leb a b) refl
     go false e = let h = leb-false a b e in rw (lt-ltb b a h)
 
 one : (C : Code) (m : Costs) (b : Bool) (q : List Bool) → phase (least C m) 1 b (q ∷ []) ≡ (q ++ (choose b (score C m q) ∷ [])) ∷ []
-unfolding phase order sort insert tabulate
+unfolding phase inOrder sort insert tabulate
 one C m true q =
     let x = least C m (q ++ (false ∷ [])) in
     let y = least C m (q ++ (true ∷ [])) in

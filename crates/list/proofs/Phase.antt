@@ -7,7 +7,7 @@ use native.Mathlib.Omega.{arith}
 use lib.ListN.{length, take}
 use Rattle.base.specs.Bit.{tabulate}
 use Rattle.base.proofs.List.{tabulate-cong}
-use Rattle.list.specs.Sort.{sort, upTo, order}
+use Rattle.list.specs.Sort.{sort, upTo, inOrder}
 use Rattle.list.specs.Paths.{split, phase, candidate}
 use Rattle.list.proofs.Sort.{map-tabulate, sort-map, take-map}
 
@@ -32,9 +32,9 @@ split-candidates ps = split-tabulate ps ∙ sym (map-tabulate (candidate ps) (2 
 
 -- At a marked phase the paths that stay are the first L candidates in the order of their penalties.
 pub phase-order : (penalty : List Bool → ℕ) (L : ℕ) (ps : List (List Bool))
-    → phase penalty L true ps ≡ map (candidate ps) (take L (order (λ c. penalty (candidate ps c)) (2 * length ps)))
-unfolding phase order
+    → phase penalty L true ps ≡ map (candidate ps) (take L (inOrder (λ c. penalty (candidate ps c)) (2 * length ps)))
+unfolding phase inOrder
 phase-order penalty L ps =
     ap (λ (l : List (List Bool)). take L (sort penalty l)) (split-candidates ps)
     ∙ ap (take L) (sort-map penalty (candidate ps) (upTo (2 * length ps)))
-    ∙ take-map (candidate ps) L (order (λ c. penalty (candidate ps c)) (2 * length ps))
+    ∙ take-map (candidate ps) L (inOrder (λ c. penalty (candidate ps c)) (2 * length ps))

@@ -10,7 +10,7 @@ use lib.Seq.{getD-set-same, getD-set-other, getD-take}
 use Rattle.base.specs.Bit.{digit, odd}
 use Rattle.bits.proofs.Packed.{digit-odd}
 use Rattle.folds.specs.Rows.{cell}
-use Rattle.list.specs.Sort.{order}
+use Rattle.list.specs.Sort.{inOrder}
 use Rattle.list.specs.Paths.{phase, candidate}
 use Rattle.list.proofs.Order.{length-order, order-cong, order-first, order-below}
 use Rattle.list.proofs.Phase.{phase-order}
@@ -73,9 +73,9 @@ module _ (pair : List (List ℕ)) (n : ℕ) (pens : List ℕ) (h : Penalties pai
         go (no q) = omega (arith, penalty-at c (omega arith), small (c / 2) (odd c) (omega arith))
 
     -- So those come first that there are:
-    first : (j : ℕ) → j < 2 * n → chosen pens j ≡ getD (order (λ c. getD pens c 0) (2 * n)) j 0
+    first : (j : ℕ) → j < 2 * n → chosen pens j ≡ getD (inOrder (λ c. getD pens c 0) (2 * n)) j 0
     first j l =
-        sym (getD-take (2 * n) (order (λ c. getD pens c 0) 16) j 0 l)
+        sym (getD-take (2 * n) (inOrder (λ c. getD pens c 0) 16) j 0 l)
         ∙ ap (λ (o : List ℕ). getD o j 0)
         (order-first (λ c. getD pens c 0) (2 * n) 16 (omega arith) (λ i k li lk l16. omega (arith, penalties-small i (omega arith), h .1 k lk l16)))
 
@@ -85,12 +85,12 @@ module _ (pair : List (List ℕ)) (n : ℕ) (pens : List ℕ) (h : Penalties pai
     module _ (penalty : List Bool → ℕ) (L : ℕ) (ps : List (List Bool)) (el : length ps ≡ n)
         (are : (i : ℕ) (b : Bool) → i < n → cell 0 pair i b ≡ penalty (getD ps i [] ++ (b ∷ []))) where
       -- the candidates by what the paths pay.
-      chosen-is : (j : ℕ) → j < 2 * n → chosen pens j ≡ getD (order (λ c. penalty (candidate ps c)) (2 * length ps)) j 0
+      chosen-is : (j : ℕ) → j < 2 * n → chosen pens j ≡ getD (inOrder (λ c. penalty (candidate ps c)) (2 * length ps)) j 0
       chosen-is j l =
           first j l
           ∙ ap (λ (o : List ℕ). getD o j 0)
           (order-cong (λ c. getD pens c 0) (λ c. penalty (candidate ps c)) (2 * n) (λ c lc. penalty-at c lc ∙ are (c / 2) (odd c) (omega arith))
-          ∙ ap (λ m. order (λ c. penalty (candidate ps c)) (2 * m)) (sym el))
+          ∙ ap (λ m. inOrder (λ c. penalty (candidate ps c)) (2 * m)) (sym el))
 
       pub penalty-is : (j : ℕ) → j < 2 * n → getD pens (chosen pens j) 0 ≡ penalty (candidate ps (chosen pens j))
       penalty-is j l =
@@ -99,7 +99,7 @@ module _ (pair : List (List ℕ)) (n : ℕ) (pens : List ℕ) (h : Penalties pai
 
       pub phase-count : length (phase penalty L true ps) ≡ min L (2 * n)
       phase-count =
-          let o = order (λ c. penalty (candidate ps c)) (2 * length ps) in
+          let o = inOrder (λ c. penalty (candidate ps c)) (2 * length ps) in
           ap (λ (l : List (List Bool)). length l) (phase-order penalty L ps)
           ∙ length-map (take L o) (candidate ps)
           ∙ length-take L o
@@ -108,7 +108,7 @@ module _ (pair : List (List ℕ)) (n : ℕ) (pens : List ℕ) (h : Penalties pai
       -- Path j of the next list is the candidate that was chosen for it.
       pub phase-at : (j : ℕ) → j < min L (2 * n) → getD (phase penalty L true ps) j [] ≡ candidate ps (chosen pens j)
       phase-at j l =
-          let o = order (λ c. penalty (candidate ps c)) (2 * length ps) in
+          let o = inOrder (λ c. penalty (candidate ps c)) (2 * length ps) in
           let lo : length o ≡ 2 * length ps = length-order (λ c. penalty (candidate ps c)) (2 * length ps) in
           let lt : length (take L o) ≡ min L (length o) = length-take L o in
           ap (λ (l : List (List Bool)). getD l j []) (phase-order penalty L ps)

@@ -8,7 +8,7 @@ use Rattle.base.specs.Bit.{digit}
 use Rattle.bits.specs.Packed.{unpack}
 use Rattle.folds.specs.Rows.{cell}
 use Rattle.lane.specs.Lanes.{laneCosts}
-use Rattle.list.specs.Sort.{order}
+use Rattle.list.specs.Sort.{inOrder}
 use Rattle.path.specs.Path.{HasSymbols, pathAt}
 use Rattle.list_phase.specs.Next.{Candidate}
 
@@ -22,7 +22,7 @@ Penalties pair n pens = ((i : ℕ) (b : Bool) → i < n → getD pens (2 * i + d
 
 -- The candidate that becomes path j.
 abbrev pub chosen : List ℕ → ℕ → ℕ
-chosen pens j = getD (order (λ c. getD pens c 0) 16) j 0
+chosen pens j = getD (inOrder (λ c. getD pens c 0) 16) j 0
 
 -- A marked phase: path j of the next list is candidate `chosen pens j`, and takes over the lane and the home of that one's path.
 pub record Marked (at L n paths : ℕ) (pair : List (List ℕ)) (scratch : List ℕ) (costs rows : List (List (List ℕ))) (home : List ℕ)

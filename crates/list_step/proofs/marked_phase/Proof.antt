@@ -6,7 +6,7 @@ use Prim.Native.Nat.{ℕ, _*_, _/_, _≤_, _<_, min}
 use native.Mathlib.Omega.{arith}
 use lib.ListN.{getD}
 use Rattle.lane.specs.Lanes.{laneCosts}
-use Rattle.list.specs.Sort.{order}
+use Rattle.list.specs.Sort.{inOrder}
 use Rattle.list.proofs.Order.{order-below}
 use Rattle.path.specs.Path.{pathAt}
 use Rattle.list_phase.specs.Next.{Candidate}
@@ -17,7 +17,7 @@ use Rattle.list_step.proofs.marked_phase.Statement.{statement}
 use Rattle.list_step.proofs.marked_phase.Tie as tie
 
 -- What stands in an order of sixteen.
-inside : (pens o : List ℕ) → o ≡ order (λ c. getD pens c 0) 16 → (j : ℕ) → j < 16 → getD o j 0 < 16
+inside : (pens o : List ℕ) → o ≡ inOrder (λ c. getD pens c 0) 16 → (j : ℕ) → j < 16 → getD o j 0 < 16
 inside pens o e j l = subst⁻¹ (λ (o : List ℕ). getD o j 0 < 16) e (order-below (λ c. getD pens c 0) 16 j l)
 
 -- What comes from place i comes from the place that i is.
