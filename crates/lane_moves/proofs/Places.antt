@@ -2,16 +2,16 @@
 use mathlib.Core.Path.{_≡_, refl, ap, subst, subst⁻¹, _∙_}
 use mathlib.Core.Bool.{Bool, true, false}
 use mathlib.Core.List.{List, [], _∷_}
-use Prim.Native.Nat.{ℕ, _+_, _≤_, _<_}
+use Prim.Native.Nat.{ℕ, _+_, _-_, _≤_, _<_}
 use native.Mathlib.Decide.{decLt}
 use native.Mathlib.Omega.{arith}
 use lib.ListN.{length, getD, set, length-set}
-use lib.Seq.{getD-set-other}
+use lib.Seq.{getD-set-same, getD-set-other}
 use Rattle.base.proofs.List.{each-next}
 use Rattle.base.specs.Bit.{digit}
 use Rattle.folds.specs.Rows.{rowOf}
 use Rattle.lane.specs.Lanes.{PairWithin, LanesWithin}
-use Rattle.lane_moves.specs.Moves.{MovedRow, LaneRow}
+use Rattle.lane_moves.specs.Moves.{Twice, LaneRow}
 
 -- Of what a place was and is: R holds of the two rows of each bit.
 abbrev pub Both : (Bool → List ℕ → List ℕ → Type 0) → List (List ℕ) → List (List ℕ) → Type 0
@@ -53,14 +53,33 @@ module _ (R : ℕ → Bool → List ℕ → List ℕ → Type 0) (old : List (Li
       go (yes l) k b lk = keeps j b _ _ l (f .done j l b) (λ i li. w j lj i b li) k lk
       go (no l) k b lk = subst⁻¹ (λ (p : List (List ℕ)). PairWithin m p) (f .rest j (omega arith)) (w j lj) k b lk
 
--- A bound of a row is one of what is moved.
-pub moved-within : (m : ℕ) (from old row : List ℕ) → ((l : ℕ) → l < 8 → getD from l 0 < 16) → MovedRow from old row
-    → ((l : ℕ) → l < 16 → getD old l 0 ≤ m) → (l : ℕ) → l < 16 → getD row l 0 ≤ m
-moved-within m from old row f e w l ll = go (decLt l 8)
+-- Eight entries and the same again, from eight numbers: one more,
+pub twice-next : (f : ℕ → ℕ) (out : List ℕ) (l x : ℕ) → length out ≡ 16 → l < 8 → x ≡ f l → Twice f l out → Twice f (l + 1) (set (set out l x) (8 + l) x)
+twice-next f out l x e ll ex h i li = go (decLt i l)
+  where
+    other : (k : ℕ) → (k ≡ l → ⊥) → (k ≡ 8 + l → ⊥) → getD (set (set out l x) (8 + l) x) k 0 ≡ getD out k 0
+    other k n m = getD-set-other (set out l x) (8 + l) k x 0 m ∙ getD-set-other out l k x 0 n
+
+    here : (getD (set (set out l x) (8 + l) x) l 0 ≡ f l) × (getD (set (set out l x) (8 + l) x) (8 + l) 0 ≡ f l)
+    here = (
+      getD-set-other (set out l x) (8 + l) l x 0 (λ q. omega arith) ∙ getD-set-same out l x 0 (omega arith) ∙ ex,
+      getD-set-same (set out l x) (8 + l) x 0 (omega (arith, length-set out l x)) ∙ ex,
+    )
+
+    go : Dec (i < l) → (getD (set (set out l x) (8 + l) x) i 0 ≡ f i) × (getD (set (set out l x) (8 + l) x) (8 + i) 0 ≡ f i)
+    go (yes q) = (other i (λ z. omega arith) (λ z. omega arith) ∙ h i q .0, other (8 + i) (λ z. omega arith) (λ z. omega arith) ∙ h i q .1)
+    go (no q) = let z : i ≡ l = omega arith in rw z here
+
+-- and a bound of these numbers is one of the row.
+pub twice-within : (m : ℕ) (f : ℕ → ℕ) (row : List ℕ) → Twice f 8 row → ((l : ℕ) → l < 8 → f l ≤ m) → (l : ℕ) → l < 16 → getD row l 0 ≤ m
+twice-within m f row e w l ll = go (decLt l 8)
   where
     go : Dec (l < 8) → getD row l 0 ≤ m
-    go (yes h) = omega (arith, e .0 l h, w (getD from l 0) (f l h))
-    go (no h) = omega (arith, e .1 l (omega arith) ll)
+    go (yes h) = omega (arith, e l h .0, w l h)
+    go (no h) =
+        let z : 8 + (l - 8) ≡ l = omega arith in
+        let q : l - 8 < 8 = omega arith in
+        omega (arith, ap (λ k. getD row k 0) z, e (l - 8) q .1, w (l - 8) q)
 
 -- Both rows of a place have what the pairs of eight lanes have there,
 abbrev pub LanePlace : List (List (List ℕ)) → ℕ → List (List ℕ) → Type 0
@@ -73,8 +92,4 @@ lane-place pairs j zero one p q true = q
 -- and no more than these.
 pub lane-within : (m : ℕ) (pairs : List (List (List ℕ))) (j : ℕ) → j < 16 → (place : List (List ℕ)) → LanePlace pairs j place
     → ((l : ℕ) → l < 8 → PairWithin m (getD pairs l [])) → PairWithin m place
-lane-within m pairs j lj place h w l b ll = go (decLt l 8)
-  where
-    go : Dec (l < 8) → getD (rowOf place b) l 0 ≤ m
-    go (yes k) = omega (arith, (h b) .0 l k, w l k j b lj)
-    go (no k) = omega (arith, (h b) .1 l (omega arith) ll)
+lane-within m pairs j lj place h w l b ll = twice-within m (λ i. getD (getD (getD pairs i []) (digit b) []) j 0) (rowOf place b) (h b) (λ i li. w i li j b lj) l ll

@@ -15,6 +15,7 @@ use Rattle.kernel.specs.Kernels.{kernelCode}
 use Rattle.lane.specs.Lanes.{laneCosts, PairWithin, LanesWithin}
 use Rattle.lane_phases.specs.Rows.{column as laneColumn, HeldLane, KeptLane}
 use Rattle.lane_totals.specs.Totals.{Again, LeastLane}
+use Rattle.lane_moves.specs.Moves.{Twins}
 use Rattle.list_run.specs.Run.{RowCosts}
 
 -- Past the end of a list there is nothing.
@@ -130,9 +131,10 @@ none-yet b costs r planes held count room = record {
 pub pairs-done : (b : ℕ) (costs : List (List (List ℕ))) (r : ℕ) (planes : List (List ℕ)) (held₀ : List (List (List (List ℕ)))) (i n : ℕ) (held : List (List (List (List ℕ)))) (pairs : List (List (List ℕ)))
     → PairsSo b costs r planes held₀ i held pairs → i ≡ n → n ≤ 8 → (lanes : List (List (List ℕ)))
     → ((l j : ℕ) (c : Bool) → l < 8 → j < 16 → laneCosts lanes l j c ≡ cell 0 (getD pairs l []) j c)
-    → ((m : ℕ) → ((l : ℕ) → l < 8 → PairWithin m (getD pairs l [])) → LanesWithin m lanes) → RowCosts b costs r n planes held lanes
-pairs-done b costs r planes held₀ i n held pairs g e ln lanes is within = record {
+    → ((m : ℕ) → ((l : ℕ) → l < 8 → PairWithin m (getD pairs l [])) → LanesWithin m lanes) → Twins 16 lanes → RowCosts b costs r n planes held lanes
+pairs-done b costs r planes held₀ i n held pairs g e ln lanes is within twins = record {
   lanes-within = within 2047 (g .within);
+  twins = twins;
   held-count = g .held-count;
   held-room = g .held-room;
   least-so = λ k j c l lj. is k j c (omega arith) lj ∙ g .least-so k (omega arith) j lj c;

@@ -18,7 +18,7 @@ use Rattle.list.specs.Paths.{phase}
 use Rattle.list.proofs.Sort.{all-at}
 use Rattle.list.proofs.Paths.{phase-long}
 use Rattle.path.specs.Path.{HasSymbols, pathAt}
-use Rattle.list_step.specs.Step.{Listed, Paid, rowSymbols, KeptRow, Lanes, PhaseStep}
+use Rattle.list_step.specs.Step.{Listed, Paid, rowSymbols, KeptRow, Lanes, PhaseStep, TwoSteps}
 use Rattle.list_step.specs.Marked.{Clean}
 use Rattle.list_run.specs.Run.{advance, Prices, Long, RowList, InRow, Turned, RowDone}
 
@@ -82,20 +82,20 @@ module _ (k r L : ℕ) (mark : ℕ → Bool) (n : ℕ) (scratch₀ : List ℕ) (
     long-at : (i : ℕ) → i < length qs → length (getD qs i []) ≡ 16 * r + s
     long-at i l = all-at (λ p. length p ≡ 16 * r + s) qs i [] l (now .long)
 
-    -- The penalties of the paths with a symbol more are the inner kernel's least totals in their lanes.
-    priced : (i : ℕ) (b : Bool) → i < count → penalty (getD qs i [] ++ (b ∷ [])) ≡ least (kernelCode k) (laneCosts costs i) (rowSymbols scratch r s i ++ (b ∷ []))
-    priced i b l =
+    -- The penalties of the paths with symbols more are the inner kernel's least totals in their lanes.
+    priced : (i : ℕ) (p : List Bool) → i < count → s + length p ≤ 16 → penalty (getD qs i [] ++ p) ≡ least (kernelCode k) (laneCosts costs i) (rowSymbols scratch r s i ++ p)
+    priced i p l lp =
         let q = getD qs i [] in
         let li : i < length qs = omega (arith, now .count-is) in
         let h = getD home i 0 in
         let t : List Bool = drop (16 * r) q in
-        let lt : length (t ++ (b ∷ [])) ≤ 16 = omega (arith, length-append t (b ∷ []), length-drop (16 * r) q, long-at i li) in
+        let lt : length (t ++ p) ≤ 16 = omega (arith, length-append t p, length-drop (16 * r) q, long-at i li) in
         let whole : q ≡ getD ps h [] ++ t = sym (two-parts (16 * r) q) ∙ ap (λ (x : List Bool). x ++ t) (now .begun i l) in
-        ap (λ (x : List Bool). penalty (x ++ (b ∷ []))) whole
-        ∙ ap penalty (append-assoc (getD ps h []) t (b ∷ []))
-        ∙ prices h (t ++ (b ∷ [])) (omega (arith, g .home-in i l)) lt
-        ∙ least-cong (kernelCode k) (λ j lj c. sym (g .lane-so i j c l lj)) (t ++ (b ∷ []))
-        ∙ ap (λ (x : List Bool). least (kernelCode k) (laneCosts costs i) (x ++ (b ∷ []))) (sym (row-symbols scratch r s i q (now .listed i li) (long-at i li)))
+        ap (λ (x : List Bool). penalty (x ++ p)) whole
+        ∙ ap penalty (append-assoc (getD ps h []) t p)
+        ∙ prices h (t ++ p) (omega (arith, g .home-in i l)) lt
+        ∙ least-cong (kernelCode k) (λ j lj c. sym (g .lane-so i j c l lj)) (t ++ p)
+        ∙ ap (λ (x : List Bool). least (kernelCode k) (laneCosts costs i) (x ++ p)) (sym (row-symbols scratch r s i q (now .listed i li) (long-at i li)))
 
     more : 16 * r + (s + 1) ≡ suc (16 * r + s)
     more = omega arith
@@ -113,7 +113,7 @@ module _ (k r L : ℕ) (mark : ℕ → Bool) (n : ℕ) (scratch₀ : List ℕ) (
         (h : PhaseStep k r s L (mark s) count scratch costs home count′ scratch′ costs′ rows′ home′) where
       pub stepped-list : RowList penalty r (s + 1) ps (advance penalty L mark (s + 1) ps) count′ scratch′ home′
       stepped-list =
-          let x = h .list-so qs penalty (now .count-is) (λ i l. long-at i (omega (arith, now .count-is))) (now .listed) priced in
+          let x = h .list-so qs penalty (now .count-is) (λ i l. long-at i (omega (arith, now .count-is))) (now .listed) (λ i b l. priced i (b ∷ []) l (omega arith)) in
           subst (λ (l : List (List Bool)). RowList penalty r (s + 1) ps l count′ scratch′ home′) (sym next-is)
           record {
             count-is = x .0;
@@ -122,6 +122,42 @@ module _ (k r L : ℕ) (mark : ℕ → Bool) (n : ℕ) (scratch₀ : List ℕ) (
             begun = λ j l.
                 let f = h .from j in
                 let q = getD (phase penalty L (mark s) qs) j [] in
+                sym (take-take (16 * r) (16 * r + s) q (omega arith))
+                ∙ ap (take (16 * r)) (x .3 j l)
+                ∙ now .begun f (h .from-in j l)
+                ∙ ap (λ n. getD ps n []) (sym (h .home-so j l));
+            paid = λ _. x .2;
+          }
+
+    -- Two phases at once.
+    module _ (count′ : ℕ) (scratch′ : List ℕ) (costs′ rows′ : List (List (List ℕ))) (home′ : List ℕ) (early : s < 15) (here : mark s ≡ true) (next : mark (s + 1) ≡ true)
+        (h : TwoSteps k r s L count scratch costs home count′ scratch′ costs′ rows′ home′) where
+      abbrev twice : List (List Bool)
+      twice = phase penalty L true (phase penalty L true qs)
+
+      twice-is : advance penalty L mark (s + 2) ps ≡ twice
+      unfolding advance
+      twice-is =
+          let z : s + 2 ≡ suc (suc s) = omega arith in
+          ap (λ n. advance penalty L mark n ps) z
+          ∙ ap₂ (λ a b. phase penalty L a (phase penalty L b qs)) (ap mark (sym (add-one s)) ∙ next) here
+
+      twice-long : Long (16 * r + (s + 2)) twice
+      twice-long =
+          let z : suc (suc (16 * r + s)) ≡ 16 * r + (s + 2) = omega arith in
+          subst (λ n. Long n twice) z (phase-long penalty L (suc (16 * r + s)) true (phase penalty L true qs) (phase-long penalty L (16 * r + s) true qs (now .long)))
+
+      pub twice-list : RowList penalty r (s + 2) ps (advance penalty L mark (s + 2) ps) count′ scratch′ home′
+      twice-list =
+          let x = h .list-so qs penalty (now .count-is) (λ i l. long-at i (omega (arith, now .count-is))) (now .listed) (λ i b l. priced i (b ∷ []) l (omega arith)) (λ i b c l. priced i (b ∷ c ∷ []) l (omega arith)) in
+          subst (λ (l : List (List Bool)). RowList penalty r (s + 2) ps l count′ scratch′ home′) (sym twice-is)
+          record {
+            count-is = x .0;
+            listed = x .1;
+            long = twice-long;
+            begun = λ j l.
+                let f = h .from j in
+                let q = getD twice j [] in
                 sym (take-take (16 * r) (16 * r + s) q (omega arith))
                 ∙ ap (take (16 * r)) (x .3 j l)
                 ∙ now .begun f (h .from-in j l)
@@ -180,6 +216,26 @@ module _ (k r L : ℕ) (mark : ℕ → Bool) (n : ℕ) (scratch₀ : List ℕ) (
     lane-so = λ j t c l lt. h .lane-so j t c l lt ∙ g .lane-so (h .from j) t c (h .from-in j l) lt ∙ ap (λ i. laneCosts costs₀ i t c) (sym (h .home-so j l));
     stepped-so = λ m. (omega arith, h .kept-so m);
     list-so = λ ps penalty e long listed prices. stepped-list ps penalty e long listed prices count′ scratch′ costs′ rows′ home′ h;
+  }
+
+  -- two of them at once,
+  pub turn-twice : (count′ : ℕ) (scratch′ : List ℕ) (costs′ halves′ rows′ : List (List (List ℕ))) (home′ : List ℕ) → s < 15 → mark s ≡ true → mark (s + 1) ≡ true
+      → Lanes costs′ halves′ rows′ → length home′ ≡ 8 → length scratch′ ≡ length scratch → drop 4096 scratch′ ≡ drop 4096 scratch
+      → Clean (16 * r + (s + 2)) count′ scratch′ → TwoSteps k r s L count scratch costs home count′ scratch′ costs′ rows′ home′
+      → InRow k r L mark n scratch₀ costs₀ (s + 2) count′ true scratch′ costs′ halves′ rows′ home′
+  turn-twice count′ scratch′ costs′ halves′ rows′ home′ early here next lanes home-room room rest clean h = record {
+    within = omega arith;
+    some = h .some;
+    few = h .few;
+    room = room ∙ g .room;
+    rest = rest ∙ g .rest;
+    lanes = lanes;
+    clean = clean;
+    home-room = home-room;
+    home-in = λ j l. rw (h .home-so j l) (g .home-in (h .from j) (h .from-in j l));
+    lane-so = λ j t c l lt. h .lane-so j t c l lt ∙ g .lane-so (h .from j) t c (h .from-in j l) lt ∙ ap (λ i. laneCosts costs₀ i t c) (sym (h .home-so j l));
+    stepped-so = λ m. (omega arith, h .kept-so);
+    list-so = λ ps penalty e long listed prices. twice-list ps penalty e long listed prices count′ scratch′ costs′ rows′ home′ early here next h;
   }
 
   -- or not, where it is unmarked and not the last one.

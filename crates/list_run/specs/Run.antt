@@ -19,6 +19,7 @@ use Rattle.lane.specs.Lanes.{laneCosts, LanesWithin}
 use Rattle.lane_phases.specs.Rows.{column as laneColumn, HeldLane, KeptLane}
 use Rattle.lane_step.specs.Step.{Halves}
 use Rattle.lane_totals.specs.Totals.{Again, TablesOf}
+use Rattle.lane_moves.specs.Moves.{Twins}
 use Rattle.list.specs.Ahead.{All}
 use Rattle.list.specs.Paths.{phase, paths}
 use Rattle.list_step.specs.Step.{Listed, Paid, rowSymbols, KeptRow, Lanes, PhaseStep}
@@ -114,6 +115,7 @@ pub record AfterRows (a b L : ℕ) (values : List ℤ) (marks : List ℕ) (costs
 -- What the outer kernels leave of row r: lane i has the least totals of path i's outer kernels, and their rows are held.
 pub record RowCosts (b : ℕ) (costs : List (List (List ℕ))) (r n : ℕ) (planes : List (List ℕ)) (held : List (List (List (List ℕ)))) (lanes : List (List (List ℕ))) : Type 0 where
   pub lanes-within : LanesWithin 2047 lanes
+  pub twins : Twins 16 lanes
   pub held-count : length held ≡ 8
   pub held-room : (i : ℕ) → i < 8 → length (getD held i []) ≡ 16
   pub least-so : (i j : ℕ) (c : Bool) → i < n → j < 16 → laneCosts lanes i j c ≡ least (kernelCode b) (laneCosts costs j) (laneColumn (getD planes i []) r j ++ (c ∷ []))

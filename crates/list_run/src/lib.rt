@@ -9,11 +9,12 @@ ghost use Rattle.base.specs.Bit;
 ghost use Rattle.bits.specs.Packed.{bits};
 ghost use Rattle.folds.specs.Range.{firstOutside};
 ghost use Rattle.path.specs.Path.{HasSymbols, pathAt};
-ghost use Rattle.windows.specs.Tables.{shapeTable};
+ghost use Rattle.windows.specs.Tables.{shapeTable, shapeAt};
 ghost use Rattle.lane.specs.Lanes.{LanesWithin};
 ghost use Rattle.lane_phases.specs.Rows.{KeptLane};
 ghost use Rattle.lane_step.specs.Step.{Halves};
 ghost use Rattle.lane_totals.specs.Totals.{Again, TablesOf};
+ghost use Rattle.lane_moves.specs.Moves.{Twins};
 ghost use Rattle.list_step.specs.Step.{KeptRow, Lanes};
 ghost use Rattle.list_step.specs.Marked.{Clean};
 ghost use mathlib.Core.Bool.{true, false};
@@ -106,6 +107,19 @@ fn turn(
     )
 }
 
+// Whether phases s and s + 1 are both marked and the second one makes its own rows.
+fn paired(inner: usize, marks: u16, s: usize, shapes: &[[u8; 2]; 16]) -> bool
+    requires { ⌜ (inner < 3) × (s < 16) × (now shapes ≡ getD shapeTable inner []) ⌝ }
+    ensures { λ q. ⌜ (q ≡ true → (s < 15) × (Bit.bit (bits 16 marks) s ≡ true) × (Bit.bit (bits 16 marks) (s + 1) ≡ true) × (shapeAt inner (s + 1) 1 ≡ 0)) ⌝ }
+{
+    if 14 < s {
+        return false;
+    }
+    let here = bits::word_bit(marks as u32, s);
+    let next = bits::word_bit(marks as u32, s + 1);
+    here & next & !lane_totals::again(inner, shapes, s + 1)
+}
+
 // The phases of row r, over the lanes of its paths. Answers how many paths there are then, and leaves the home of each: the path at the
 // row's beginning that it went on from.
 fn row_phases(
@@ -121,7 +135,7 @@ fn row_phases(
     home: &mut [usize; 8],
 ) -> usize
     requires { ⌜ (inner < 3) × (r < 16) × (1 ≤ list) × (list ≤ 8) × (1 ≤ n) × (n ≤ 8) × (4096 ≤ length (now scratch)) ⌝ }
-    requires { ⌜ TablesOf inner (now shapes) (now tables) × LanesWithin 2047 lanes × (length (now home) ≡ 8) × ((i : ℕ) → i < 8 → getD (now home) i 0 ≡ i) × Clean (16 * r) n (now scratch) ⌝ }
+    requires { ⌜ TablesOf inner (now shapes) (now tables) × LanesWithin 2047 lanes × (length (now home) ≡ 8) × ((i : ℕ) → i < 8 → getD (now home) i 0 ≡ i) × Clean (16 * r) n (now scratch) × Twins 16 lanes ⌝ }
     ensures { λ q. ⌜ RowDone inner r list (λ s. Bit.bit (bits 16 marks) s) n (now (scratch .entry)) lanes q (now (scratch .exit)) (now (home .exit)) ⌝ }
 {
     let mut costs = lanes;
@@ -131,25 +145,44 @@ fn row_phases(
     let mut stepped = false;
     let mut s: usize = 0;
     while s < 16 {
-        let marked = bits::word_bit(marks as u32, s);
-        count = turn(
-            inner,
-            r,
-            s,
-            marked,
-            stepped,
-            list,
-            count,
-            shapes,
-            tables,
-            scratch,
-            &mut costs,
-            &mut halves,
-            &mut rows,
-            home,
-        );
-        stepped = marked;
-        s += 1;
+        if paired(inner, marks, s, shapes) {
+            count = list_step::two_phases(
+                inner,
+                r,
+                s,
+                list,
+                count,
+                shapes,
+                tables,
+                scratch,
+                &mut costs,
+                &mut halves,
+                &mut rows,
+                home,
+            );
+            stepped = true;
+            s += 2;
+        } else {
+            let marked = bits::word_bit(marks as u32, s);
+            count = turn(
+                inner,
+                r,
+                s,
+                marked,
+                stepped,
+                list,
+                count,
+                shapes,
+                tables,
+                scratch,
+                &mut costs,
+                &mut halves,
+                &mut rows,
+                home,
+            );
+            stepped = marked;
+            s += 1;
+        }
     }
     count
 }

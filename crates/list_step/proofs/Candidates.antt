@@ -1,5 +1,5 @@
 -- The candidates of a marked phase, in the order of their penalties, are the paths that stay. Assumes nothing.
-use mathlib.Core.Path.{_≡_, refl, sym, ap, _∙_}
+use mathlib.Core.Path.{_≡_, refl, sym, ap, subst⁻¹, _∙_}
 use mathlib.Core.Bool.{Bool, true, false}
 use mathlib.Core.List.{List, [], _∷_, _++_, map}
 use Prim.Native.Nat.{ℕ, zero, suc, _+_, _*_, _/_, _≤_, _<_, min}
@@ -38,6 +38,10 @@ digit-le true = omega arith
 -- Every number is a path's candidate with one of the two symbols.
 whole : (c : ℕ) → 2 * (c / 2) + digit (odd c) ≡ c
 whole c = omega (arith, digit-odd c)
+
+-- What stands in an order of sixteen.
+pub inside : (pens o : List ℕ) → o ≡ inOrder (λ c. getD pens c 0) 16 → (j : ℕ) → j < 16 → getD o j 0 < 16
+inside pens o e j l = subst⁻¹ (λ (o : List ℕ). getD o j 0 < 16) e (order-below (λ c. getD pens c 0) 16 j l)
 
 -- The two candidates of one path more.
 pub next-penalties : (pair : List (List ℕ)) (i : ℕ) (out : List ℕ) (x y : ℕ) → length out ≡ 16 → i < 8 → x ≡ cell 0 pair i false → y ≡ cell 0 pair i true

@@ -36,7 +36,7 @@ totals-small k r s n pair scratch costs within room ln totals i b l =
 -- Lanes with other rows.
 pub other-rows : (costs halves rows rows′ : List (List (List ℕ))) → Lanes costs halves rows → length rows′ ≡ 16 → Lanes costs halves rows′
 other-rows costs halves rows rows′ h e =
-    record { costs-within = h .costs-within; halves-within = h .halves-within; halves-are = h .halves-are; cost-room = h .cost-room; row-room = e }
+    record { costs-within = h .costs-within; halves-within = h .halves-within; halves-are = h .halves-are; cost-room = h .cost-room; row-room = e; costs-twins = h .costs-twins }
 
 module _ (k r s n : ℕ) (lk : k < 3) (lr : r < 16) (ls : s < 16) (one : 1 ≤ n) (ln : n ≤ 8) (pair : List (List ℕ)) (scratch : List ℕ) (costs rows : List (List (List ℕ)))
     (clean : Clean (16 * r + s) n scratch) (totals : Totals k costs scratch r s n pair) where

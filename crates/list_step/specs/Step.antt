@@ -13,6 +13,7 @@ use Rattle.windows.specs.Paths.{Kept}
 use Rattle.lane.specs.Lanes.{laneCosts, LanesWithin}
 use Rattle.lane_phases.specs.Rows.{scoreRows}
 use Rattle.lane_step.specs.Step.{Halves}
+use Rattle.lane_moves.specs.Moves.{Twins}
 use Rattle.list.specs.Paths.{phase}
 use Rattle.path.specs.Path.{HasSymbols, pathAt}
 
@@ -33,13 +34,18 @@ abbrev pub KeptRow : ℕ → List (List (List ℕ)) → List (List (List ℕ)) �
 KeptRow k costs rows scratch r s i =
     Kept k (laneCosts costs i) (rowSymbols scratch r s i) (rowOf (scoreRows rows i) (bit (rowSymbols scratch r s i) (s - 1)))
 
--- The lanes of a row: what the places pay, its fold onto eight, and rows.
+-- The lanes of a row: what the places pay, lane 8 + l as lane l, and its fold onto eight,
+abbrev pub PlacesPay : List (List (List ℕ)) → List (List (List ℕ)) → Type 0
+PlacesPay costs halves = LanesWithin 2047 costs × LanesWithin 4095 halves × Halves costs halves × (length costs ≡ 16) × Twins 16 costs
+
+-- and rows.
 pub record Lanes (costs halves rows : List (List (List ℕ))) : Type 0 where
   pub costs-within : LanesWithin 2047 costs
   pub halves-within : LanesWithin 4095 halves
   pub halves-are : Halves costs halves
   pub cost-room : length costs ≡ 16
   pub row-room : length rows ≡ 16
+  pub costs-twins : Twins 16 costs
 
 -- Phase s of row r, in a list of L: n paths become `count`. Path j goes on from path `from j`, in whose lane its places and its home were;
 -- and whatever the penalty of a path is, as long as the inner kernel's least totals are the penalties of the paths with a symbol
@@ -57,3 +63,21 @@ pub record PhaseStep (k r s L : ℕ) (marked : Bool) (n : ℕ) (scratch : List �
       → ((i : ℕ) (b : Bool) → i < n → penalty (getD ps i [] ++ (b ∷ [])) ≡ least (kernelCode k) (laneCosts costs i) (rowSymbols scratch r s i ++ (b ∷ [])))
       → (length (phase penalty L marked ps) ≡ count) × Listed (phase penalty L marked ps) scratch′ × Paid penalty (phase penalty L marked ps) scratch′
       × ((j : ℕ) → j < count → take (16 * r + s) (getD (phase penalty L marked ps) j []) ≡ getD ps (from j) [])
+
+-- The same of phases s and s + 1, both marked: the paths of the second one's list, where the least totals are the penalties of the paths
+-- with one symbol more and with two.
+pub record TwoSteps (k r s L n : ℕ) (scratch : List ℕ) (costs : List (List (List ℕ))) (home : List ℕ)
+    (count : ℕ) (scratch′ : List ℕ) (costs′ rows′ : List (List (List ℕ))) (home′ : List ℕ) : Type 0 where
+  pub from : ℕ → ℕ
+  pub from-in : (j : ℕ) → j < count → from j < n
+  pub some : 1 ≤ count
+  pub few : count ≤ 8
+  pub lane-so : (j t : ℕ) (c : Bool) → j < count → t < 16 → laneCosts costs′ j t c ≡ laneCosts costs (from j) t c
+  pub home-so : (j : ℕ) → j < count → getD home′ j 0 ≡ getD home (from j) 0
+  pub kept-so : (j : ℕ) → j < count → KeptRow k costs′ rows′ scratch′ r (s + 2) j
+  pub list-so : (ps : List (List Bool)) (penalty : List Bool → ℕ) → length ps ≡ n → ((i : ℕ) → i < n → length (getD ps i []) ≡ 16 * r + s) → Listed ps scratch
+      → ((i : ℕ) (b : Bool) → i < n → penalty (getD ps i [] ++ (b ∷ [])) ≡ least (kernelCode k) (laneCosts costs i) (rowSymbols scratch r s i ++ (b ∷ [])))
+      → ((i : ℕ) (b c : Bool) → i < n → penalty (getD ps i [] ++ (b ∷ c ∷ [])) ≡ least (kernelCode k) (laneCosts costs i) (rowSymbols scratch r s i ++ (b ∷ c ∷ [])))
+      → (length (phase penalty L true (phase penalty L true ps)) ≡ count) × Listed (phase penalty L true (phase penalty L true ps)) scratch′
+      × Paid penalty (phase penalty L true (phase penalty L true ps)) scratch′
+      × ((j : ℕ) → j < count → take (16 * r + s) (getD (phase penalty L true (phase penalty L true ps)) j []) ≡ getD ps (from j) [])

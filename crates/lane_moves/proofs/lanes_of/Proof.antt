@@ -1,5 +1,5 @@
 -- `lane_moves::lanes_of` meets its contract: the first j places are made. Assumes nothing.
-use mathlib.Core.Path.{_≡_, refl}
+use mathlib.Core.Path.{_≡_, refl, sym, _∙_}
 use mathlib.Core.List.{[]}
 use Prim.Native.Nat.{ℕ, _-_, _≤_, _<_}
 use native.Mathlib.Omega.{arith}
@@ -50,8 +50,11 @@ returns : tie.Need-returns Inv-loop μ-loop
 returns c =
     let k = c .before .loop in
     let a = c .before .before .args in (
-      (λ l j b ll lj. (k .inv .2 j (omega arith) b) .0 l ll),
-      λ m w j lj. lane-within m (a .pairs .now) j lj (getD (k .out) j []) (k .inv .2 j (omega arith)) w,
+      (λ l j b ll lj. k .inv .2 j (omega arith) b l ll .0),
+      (
+        λ m w j lj. lane-within m (a .pairs .now) j lj (getD (k .out) j []) (k .inv .2 j (omega arith)) w,
+        λ l t b ll lt. let e = k .inv .2 t (omega arith) b l ll in e .1 ∙ sym (e .0),
+      ),
     )
 
 pub lanes-of-spec : {M : Type 1} → statement M

@@ -1,11 +1,11 @@
 -- `lane_moves::rearrange` meets its contract: the first t entries are moved. Assumes nothing.
-use mathlib.Core.Path.{_≡_}
+use mathlib.Core.Path.{_≡_, sym, _∙_}
 use mathlib.Core.List.{[]}
 use Prim.Native.Nat.{ℕ, _-_, _≤_, _<_}
 use native.Mathlib.Omega.{arith}
 use lib.ListN.{getD}
 use Rattle.lane_moves.specs.Moves.{MovedRow}
-use Rattle.lane_moves.proofs.Places.{Replaced, replaced-none, replaced-next, replaced-within, both-rows, moved-within}
+use Rattle.lane_moves.proofs.Places.{Replaced, replaced-none, replaced-next, replaced-within, both-rows, twice-within}
 use borrow.Author.Needs.{needs}
 use Rattle.lane_moves.proofs.rearrange.Statement.{statement}
 use Rattle.lane_moves.proofs.rearrange.Tie as tie
@@ -64,8 +64,11 @@ returns c = let k = c .before .loop in
     let a = c .before .before .args in (
       k .inv .3 .room,
       (
-        λ t l b lt ll. k .inv .3 .done t (omega arith) b .0 l ll,
-        λ m. replaced-within (λ _ _. MovedRow (a .from .now)) (a .rows .now) (k .t) (k .rows) m (k .inv .3) (λ i b p q _. moved-within m (a .from .now) p q (k .inv .2)),
+        λ t l b lt ll. k .inv .3 .done t (omega arith) b l ll .0,
+        (
+          λ m. replaced-within (λ _ _. MovedRow (a .from .now)) (a .rows .now) (k .t) (k .rows) m (k .inv .3) (λ i b p q _ e w. twice-within m _ q e (λ l ll. w _ (k .inv .2 l ll))),
+          λ l t b ll lt. let e = k .inv .3 .done t (omega arith) b l ll in e .1 ∙ sym (e .0),
+        ),
       ),
     )
 

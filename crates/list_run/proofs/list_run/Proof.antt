@@ -107,7 +107,7 @@ row-phases-requires c κs =
     let g = k .inv .1 in
     let a = z .args in (
       (z .pre .0 .0, c .before .before .before .before .before .before .before .before .before .before .before .loop-test .taken, z .pre .0 .2, z .pre .0 .3, g .some, g .few, omega (arith, g .room, c .before .before .before .before .before .before .before .before .before .before .before .before .before .before .before .first-path .ensures .1 .0, z .pre .0 .4)),
-      (t .inner-tables, c .before .before .before .before .row-costs .ensures .lanes-within, refl, own, rows-clean (a .inner) (a .outer) (a .list) (a .values .now) (a .t5) _ _ (k .r) (k .n) (k .planes) (k .held) _ g),
+      (t .inner-tables, c .before .before .before .before .row-costs .ensures .lanes-within, refl, own, rows-clean (a .inner) (a .outer) (a .list) (a .values .now) (a .t5) _ _ (k .r) (k .n) (k .planes) (k .held) _ g, c .before .before .before .before .row-costs .ensures .twins),
     )
 
 next-planes-requires : tie.Need-next-planes-requires Inv-loop μ-loop

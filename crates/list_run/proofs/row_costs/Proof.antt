@@ -74,7 +74,7 @@ returns c =
     let z = c .before .before .before .before in
     let a = z .args in
     let h = c .lanes-of .ensures in
-    pairs-done (a .outer) (a .costs .now) (a .r) (a .planes .now) (a .held .now) (k .i) (a .n) (k .held) (k .pairs) (k .inv .1) (search needs) (z .pre .0 .2) _ (h .0) (h .1)
+    pairs-done (a .outer) (a .costs .now) (a .r) (a .planes .now) (a .held .now) (k .i) (a .n) (k .held) (k .pairs) (k .inv .1) (search needs) (z .pre .0 .2) _ (h .0) (h .1 .0) (h .1 .1)
 
 pub row-costs-spec : {M : Type 1} → statement M
 row-costs-spec =

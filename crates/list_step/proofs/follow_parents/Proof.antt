@@ -1,76 +1,25 @@
 -- `list_step::follow_parents` meets its contract. Assumes nothing.
-use mathlib.Core.Path.{_≡_, sym, ap}
-use Prim.Native.Nat.{ℕ, _<_}
 use native.Mathlib.Omega.{arith}
-use lib.ListN.{getD}
-use Rattle.lane.specs.Lanes.{laneCosts}
-use Rattle.list_step.proofs.Tests.{not-true}
 use borrow.Author.Needs.{needs}
 use Rattle.list_step.proofs.follow_parents.Statement.{statement}
 use Rattle.list_step.proofs.follow_parents.Tie as tie
 
-is-moved-requires : tie.Need-is-moved-requires
-is-moved-requires c κs = search needs
+move-rows-requires : tie.Need-move-rows-requires
+move-rows-requires c κs = let p = c .before .pre in
+    (p .0, p .1, λ l ll. omega (arith, p .2 l ll), p .3 .row-room)
+
+move-costs-requires : tie.Need-move-costs-requires
+move-costs-requires c κs = let p = c .before .before .before .before .before .pre in
+    let h = p .3 in
+    (p .0, p .2, (h .costs-within, h .halves-within, h .halves-are, h .cost-room, h .costs-twins), p .4)
 
 returns : tie.Need-returns
-returns c = let s = c .before .before in
-    let a = s .args in
-    let m = c .before .is-moved in
-    let same : (j : ℕ) → j < a .n → getD (a .from .now) j 0 ≡ j = m .ensures (not-true (m .result) (c .if1 .taken)) in (
-      (s .pre .3, s .pre .4),
-      (
-        λ j t b l _. ap (λ i. laneCosts (a .costs .now) i t b) (sym (same j l)),
-        (λ j t b l _. ap (λ i. laneCosts (a .rows .now) i t b) (sym (same j l)), λ j l. ap (λ i. getD (a .home .now) i 0) (sym (same j l))),
-      ),
-    )
-
-rearrange-requires : tie.Need-rearrange-requires
-rearrange-requires c κs = let s = c .before .before .before in
-    (search needs, s .pre .3 .cost-room, λ l ll. omega (arith, s .pre .2 l ll))
-
-rearrange-requires-2 : tie.Need-rearrange-requires-2
-rearrange-requires-2 c κs = let s = c .before .before .before .before .before in
-    (search needs, s .pre .3 .row-room, λ l ll. omega (arith, s .pre .2 l ll))
-
-free-eight-requires : tie.Need-free-eight-requires
-free-eight-requires c κs = let s = c .before .before .before .before .before .before .before in
-    let w = c .before .before .before .rearrange .ensures .1 .1 2047 (s .pre .3 .costs-within) in
-    λ j lj l b ll. omega (arith, w j lj l b ll)
-
-moved-home-requires : tie.Need-moved-home-requires
-moved-home-requires c κs = search needs
-
-returns-2 : tie.Need-returns-2
-returns-2 c = let s = c .before .before .before .before .before .before .before .before .before .before in
-    let a = s .args in
-    let n = c .before .before .free-eight .ensures in
-    let q = c .before .before .before .before .rearrange2 .ensures in
-    let m = c .before .before .before .before .before .before .rearrange .ensures in
-    let w = m .1 .1 2047 (s .pre .3 .costs-within) in (
-      (
-        record {
-          costs-within = w;
-          halves-within = λ j lj l b ll. omega (arith, n .1 2047 w j lj l b ll);
-          halves-are = n .0;
-          cost-room = m .0;
-          row-room = q .0;
-        },
-        c .moved-home .ensures .0,
-      ),
-      (
-        λ j t b l lt. m .1 .0 t j b lt (omega (arith, l, s .pre .0)),
-        (λ j t b l lt. q .1 .0 t j b (omega (arith, lt)) (omega (arith, l, s .pre .0)), λ j l. c .moved-home .ensures .1 j (omega (arith, l, s .pre .0))),
-      ),
+returns c = let v = c .before .before .before .before .move-rows .ensures in
+    let u = c .move-costs .ensures in
+    let w = u .0 .0 in (
+      (record { costs-within = w .0; halves-within = w .1; halves-are = w .2; cost-room = w .3; row-room = v .0; costs-twins = w .4 }, u .0 .1),
+      (u .1 .0, (v .1, u .1 .1)),
     )
 
 pub follow-parents-spec : {M : Type 1} → statement M
-follow-parents-spec =
-    tie.close
-    (tie.spec
-    is-moved-requires
-    returns
-    rearrange-requires
-    rearrange-requires-2
-    free-eight-requires
-    moved-home-requires
-    returns-2)
+follow-parents-spec = tie.close (tie.spec move-rows-requires move-costs-requires returns)
