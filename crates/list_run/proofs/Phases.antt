@@ -12,6 +12,7 @@ use Rattle.base.specs.Bit.{bit}
 use Rattle.bits.specs.Packed.{unpack}
 use Rattle.polar.specs.Code.{least}
 use Rattle.polar.proofs.Least.{least-cong}
+use Rattle.folds.specs.Rows.{select}
 use Rattle.kernel.specs.Kernels.{kernelCode}
 use Rattle.lane.specs.Lanes.{laneCosts}
 use Rattle.list.specs.Paths.{phase}
@@ -20,7 +21,7 @@ use Rattle.list.proofs.Paths.{phase-long}
 use Rattle.path.specs.Path.{HasSymbols, pathAt}
 use Rattle.list_step.specs.Step.{Listed, Paid, rowSymbols, KeptRow, Lanes, PhaseStep, TwoSteps}
 use Rattle.list_step.specs.Marked.{Clean}
-use Rattle.list_run.specs.Run.{advance, Prices, Long, RowList, InRow, Turned, RowDone}
+use Rattle.list_run.specs.Run.{advance, Prices, Long, RowList, InRow, Turned, Advanced, RowDone}
 
 -- A list in two parts.
 pub two-parts : (n : ℕ) (l : List Bool) → take n l ++ drop n l ≡ l
@@ -266,6 +267,19 @@ module _ (k r L : ℕ) (mark : ℕ → Bool) (n : ℕ) (scratch₀ : List ℕ) (
       (subst (λ b. PhaseStep k r s L b count scratch costs home count′ scratch′ costs′ rows′ home′) e h))
   turn marked count′ scratch′ costs′ halves′ rows′ home′ e lanes home-room room rest clean (inr (u, l, e0, e1, e2, e3, e4, e5)) =
       rw (e, e0, e1, e2, e3, e4, e5) (turn-skipped (sym e ∙ u) l)
+
+  -- One phase or a pair.
+  pub turn-any : (marked pair : Bool) (count′ : ℕ) (scratch′ : List ℕ) (costs′ halves′ rows′ : List (List (List ℕ))) (home′ : List ℕ) → marked ≡ mark s
+      → (pair ≡ true → (s < 15) × (mark s ≡ true) × (mark (s + 1) ≡ true))
+      → Lanes costs′ halves′ rows′ → length home′ ≡ 8 → length scratch′ ≡ length scratch → drop 4096 scratch′ ≡ drop 4096 scratch
+      → Clean (16 * r + (s + select 1 2 pair)) count′ scratch′ → Advanced k r s L marked pair count scratch costs halves rows home count′ scratch′ costs′ halves′ rows′ home′
+      → InRow k r L mark n scratch₀ costs₀ (s + select 1 2 pair) count′ marked scratch′ costs′ halves′ rows′ home′
+  turn-any marked true count′ scratch′ costs′ halves′ rows′ home′ e p lanes home-room room rest clean h =
+      let q = p refl in
+      subst⁻¹ (λ b. InRow k r L mark n scratch₀ costs₀ (s + 2) count′ b scratch′ costs′ halves′ rows′ home′) (e ∙ q .1)
+      (turn-twice count′ scratch′ costs′ halves′ rows′ home′ (q .0) (q .1) (q .2) lanes home-room room rest clean (h .0 refl))
+  turn-any marked false count′ scratch′ costs′ halves′ rows′ home′ e p lanes home-room room rest clean h =
+      turn marked count′ scratch′ costs′ halves′ rows′ home′ e lanes home-room room rest clean (h .1 refl)
 
 -- After the last phase.
 pub row-done : (k r L : ℕ) (mark : ℕ → Bool) (n : ℕ) (scratch₀ : List ℕ) (costs₀ : List (List (List ℕ)))

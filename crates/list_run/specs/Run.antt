@@ -22,7 +22,7 @@ use Rattle.lane_totals.specs.Totals.{Again, TablesOf}
 use Rattle.lane_moves.specs.Moves.{Twins}
 use Rattle.list.specs.Ahead.{All}
 use Rattle.list.specs.Paths.{phase, paths}
-use Rattle.list_step.specs.Step.{Listed, Paid, rowSymbols, KeptRow, Lanes, PhaseStep}
+use Rattle.list_step.specs.Step.{Listed, Paid, rowSymbols, KeptRow, Lanes, PhaseStep, TwoSteps}
 use Rattle.list_step.specs.Marked.{Clean}
 
 -- The paths ps after the first s phases of a row.
@@ -70,6 +70,13 @@ abbrev pub Turned : ℕ → ℕ → ℕ → ℕ → Bool → ℕ → List ℕ �
 Turned k r s L marked n scratch costs halves rows home count scratch′ costs′ halves′ rows′ home′ =
     PhaseStep k r s L marked n scratch costs home count scratch′ costs′ rows′ home′
     ⊎ ((marked ≡ false) × (s < 15) × (count ≡ n) × (scratch′ ≡ scratch) × (costs′ ≡ costs) × (halves′ ≡ halves) × (rows′ ≡ rows) × (home′ ≡ home))
+
+-- The same, or where phases are taken as a pair two marked ones.
+abbrev pub Advanced : ℕ → ℕ → ℕ → ℕ → Bool → Bool → ℕ → List ℕ → List (List (List ℕ)) → List (List (List ℕ)) → List (List (List ℕ)) → List ℕ
+    → ℕ → List ℕ → List (List (List ℕ)) → List (List (List ℕ)) → List (List (List ℕ)) → List ℕ → Type 0
+Advanced k r s L marked pair n scratch costs halves rows home count scratch′ costs′ halves′ rows′ home′ =
+    (pair ≡ true → TwoSteps k r s L n scratch costs home count scratch′ costs′ rows′ home′)
+    × (pair ≡ false → Turned k r s L marked n scratch costs halves rows home count scratch′ costs′ halves′ rows′ home′)
 
 -- What a whole row leaves.
 pub record RowDone (k r L : ℕ) (mark : ℕ → Bool) (n : ℕ) (scratch₀ : List ℕ) (costs₀ : List (List (List ℕ)))
@@ -126,10 +133,9 @@ abbrev pub NextPlanes : List ℕ → ℕ → ℕ → List ℕ → List ℕ → L
 NextPlanes matrix r n scratch home planes planes′ =
     (i : ℕ) → i < n → (x : ℕ) × (bits 16 x ≡ rowSymbols scratch r 16 i) × (getD planes′ i [] ≡ set (getD planes (getD home i 0) []) r (rowSum matrix x))
 
--- What a run has before its first row and keeps: the tables of both kernels, the inner kernel's rows, and what the values pay, by outer
+-- What a run has before its first row and keeps: the tables of the outer kernel, the inner kernel's rows, and what the values pay, by outer
 -- kernel, with its fold onto eight.
-pub record FrameTables (a b : ℕ) (values : List ℤ) (innerShapes innerTables outerShapes outerTables : List (List ℕ)) (matrix : List ℕ) (costs halves : List (List (List ℕ))) : Type 0 where
-  pub inner-tables : TablesOf a innerShapes innerTables
+pub record FrameTables (a b : ℕ) (values : List ℤ) (outerShapes outerTables : List (List ℕ)) (matrix : List ℕ) (costs halves : List (List (List ℕ))) : Type 0 where
   pub outer-tables : TablesOf b outerShapes outerTables
   pub matrix-is : matrix ≡ getD table a []
   pub cost-room : length costs ≡ 16

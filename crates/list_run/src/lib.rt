@@ -8,6 +8,7 @@ ghost use lib.ListN.{length, getD, drop, set};
 ghost use Rattle.base.specs.Bit;
 ghost use Rattle.bits.specs.Packed.{bits};
 ghost use Rattle.folds.specs.Range.{firstOutside};
+ghost use Rattle.folds.specs.Rows.{select};
 ghost use Rattle.path.specs.Path.{HasSymbols, pathAt};
 ghost use Rattle.windows.specs.Tables.{shapeTable, shapeAt};
 ghost use Rattle.lane.specs.Lanes.{LanesWithin};
@@ -18,7 +19,7 @@ ghost use Rattle.lane_moves.specs.Moves.{Twins};
 ghost use Rattle.list_step.specs.Step.{KeptRow, Lanes};
 ghost use Rattle.list_step.specs.Marked.{Clean};
 ghost use mathlib.Core.Bool.{true, false};
-ghost use Rattle.list_run.specs.Run.{RowCosts, Turned, RowDone, NextPlanes, ListRun};
+ghost use Rattle.list_run.specs.Run.{RowCosts, Turned, Advanced, RowDone, NextPlanes, ListRun};
 use path::Path;
 
 // The lanes of row r: of each path the least totals of its sixteen outer kernels. It leaves their rows.
@@ -120,6 +121,75 @@ fn paired(inner: usize, marks: u16, s: usize, shapes: &[[u8; 2]; 16]) -> bool
     here & next & !lane_totals::again(inner, shapes, s + 1)
 }
 
+// How many phases are taken at once.
+fn phase_count(pair: bool) -> usize
+    ensures { λ q. ⌜ (q ≡ select 1 2 pair) × (1 ≤ q) × (q ≤ 2) ⌝ }
+{
+    if pair { 2 } else { 1 }
+}
+
+// Phase s of row r, or a pair of marked phases from s on.
+fn next_phases(
+    inner: usize,
+    r: usize,
+    s: usize,
+    marked: bool,
+    pair: bool,
+    stepped: bool,
+    list: usize,
+    n: usize,
+    shapes: &[[u8; 2]; 16],
+    tables: &[[u16; 16]; 16],
+    scratch: &mut [u8],
+    costs: &mut [[[u16; 16]; 2]; 16],
+    halves: &mut [[[u16; 16]; 2]; 16],
+    rows: &mut [[[u16; 16]; 2]; 16],
+    home: &mut [usize; 8],
+) -> usize
+    requires { ⌜ (inner < 3) × (r < 16) × (s < 16) × (1 ≤ list) × (list ≤ 8) × (1 ≤ n) × (n ≤ 8) × (4096 ≤ length (now scratch)) ⌝ }
+    requires { ⌜ TablesOf inner (now shapes) (now tables) × (pair ≡ true → (s < 15) × (shapeAt inner (s + 1) 1 ≡ 0)) ⌝ }
+    requires { ⌜ Lanes (now costs) (now halves) (now rows) × (length (now home) ≡ 8) ⌝ }
+    requires { ⌜ (stepped ≡ true → (0 < s) × ((i : ℕ) → i < n → KeptRow inner (now costs) (now rows) (now scratch) r s i)) ⌝ }
+    requires { ⌜ Clean (16 * r + s) n (now scratch) ⌝ }
+    ensures lanes { λ _. ⌜ Lanes (now (costs .exit)) (now (halves .exit)) (now (rows .exit)) × (length (now (home .exit)) ≡ 8) ⌝ }
+    ensures rest { λ _. ⌜ (length (now (scratch .exit)) ≡ length (now (scratch .entry))) × (drop 4096 (now (scratch .exit)) ≡ drop 4096 (now (scratch .entry))) ⌝ }
+    ensures clean { λ q. ⌜ Clean (16 * r + (s + select 1 2 pair)) q (now (scratch .exit)) ⌝ }
+    ensures advanced { λ q. ⌜ Advanced inner r s list marked pair n (now (scratch .entry)) (now (costs .entry)) (now (halves .entry)) (now (rows .entry)) (now (home .entry)) q (now (scratch .exit)) (now (costs .exit)) (now (halves .exit)) (now (rows .exit)) (now (home .exit)) ⌝ }
+{
+    if pair {
+        return list_step::two_phases(
+            inner,
+            r,
+            s,
+            list,
+            n,
+            shapes,
+            tables,
+            scratch,
+            costs,
+            halves,
+            rows,
+            home,
+        );
+    }
+    turn(
+        inner,
+        r,
+        s,
+        marked,
+        stepped,
+        list,
+        n,
+        shapes,
+        tables,
+        scratch,
+        costs,
+        halves,
+        rows,
+        home,
+    )
+}
+
 // The phases of row r, over the lanes of its paths. Answers how many paths there are then, and leaves the home of each: the path at the
 // row's beginning that it went on from.
 fn row_phases(
@@ -128,16 +198,16 @@ fn row_phases(
     marks: u16,
     list: usize,
     n: usize,
-    shapes: &[[u8; 2]; 16],
-    tables: &[[u16; 16]; 16],
     lanes: [[[u16; 16]; 2]; 16],
     scratch: &mut [u8],
     home: &mut [usize; 8],
 ) -> usize
     requires { ⌜ (inner < 3) × (r < 16) × (1 ≤ list) × (list ≤ 8) × (1 ≤ n) × (n ≤ 8) × (4096 ≤ length (now scratch)) ⌝ }
-    requires { ⌜ TablesOf inner (now shapes) (now tables) × LanesWithin 2047 lanes × (length (now home) ≡ 8) × ((i : ℕ) → i < 8 → getD (now home) i 0 ≡ i) × Clean (16 * r) n (now scratch) × Twins 16 lanes ⌝ }
+    requires { ⌜ LanesWithin 2047 lanes × (length (now home) ≡ 8) × ((i : ℕ) → i < 8 → getD (now home) i 0 ≡ i) × Clean (16 * r) n (now scratch) × Twins 16 lanes ⌝ }
     ensures { λ q. ⌜ RowDone inner r list (λ s. Bit.bit (bits 16 marks) s) n (now (scratch .entry)) lanes q (now (scratch .exit)) (now (home .exit)) ⌝ }
 {
+    let shapes = step::shapes_of(inner);
+    let tables = step::tables_of(inner);
     let mut costs = lanes;
     let mut halves = lane_nodes::free_eight(&costs);
     let mut rows = [[[0u16; 16]; 2]; 16];
@@ -145,44 +215,27 @@ fn row_phases(
     let mut stepped = false;
     let mut s: usize = 0;
     while s < 16 {
-        if paired(inner, marks, s, shapes) {
-            count = list_step::two_phases(
-                inner,
-                r,
-                s,
-                list,
-                count,
-                shapes,
-                tables,
-                scratch,
-                &mut costs,
-                &mut halves,
-                &mut rows,
-                home,
-            );
-            stepped = true;
-            s += 2;
-        } else {
-            let marked = bits::word_bit(marks as u32, s);
-            count = turn(
-                inner,
-                r,
-                s,
-                marked,
-                stepped,
-                list,
-                count,
-                shapes,
-                tables,
-                scratch,
-                &mut costs,
-                &mut halves,
-                &mut rows,
-                home,
-            );
-            stepped = marked;
-            s += 1;
-        }
+        let marked = bits::word_bit(marks as u32, s);
+        let pair = paired(inner, marks, s, &shapes);
+        count = next_phases(
+            inner,
+            r,
+            s,
+            marked,
+            pair,
+            stepped,
+            list,
+            count,
+            &shapes,
+            &tables,
+            scratch,
+            &mut costs,
+            &mut halves,
+            &mut rows,
+            home,
+        );
+        stepped = marked;
+        s += phase_count(pair);
     }
     count
 }
@@ -287,8 +340,6 @@ pub fn list_run(
     ensures rest { λ _. ⌜ (length (now (scratch .exit)) ≡ length (now (scratch .entry))) × (drop 4096 (now (scratch .exit)) ≡ drop 4096 (now (scratch .entry))) ⌝ }
     ensures list { λ n. ⌜ ListRun inner outer list (now (values .entry)) marks n (now (scratch .exit)) ⌝ }
 {
-    let inner_shapes = step::shapes_of(inner);
-    let inner_tables = step::tables_of(inner);
     let outer_shapes = step::shapes_of(outer);
     let outer_tables = step::tables_of(outer);
     let matrix = kernel::kernel_rows(inner as u8);
@@ -312,18 +363,7 @@ pub fn list_run(
             &mut held,
         );
         let mut home: [usize; 8] = [0, 1, 2, 3, 4, 5, 6, 7];
-        n = row_phases(
-            inner,
-            r,
-            marks[r],
-            list,
-            n,
-            &inner_shapes,
-            &inner_tables,
-            lanes,
-            scratch,
-            &mut home,
-        );
+        n = row_phases(inner, r, marks[r], list, n, lanes, scratch, &mut home);
         let next = next_planes(matrix, r, n, scratch, &home, &planes);
         planes = next;
         next_held(outer, r, n, &outer_shapes, &home, &mut held);

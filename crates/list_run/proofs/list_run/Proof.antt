@@ -33,24 +33,18 @@ lt-le : {a b n : ℕ} → a < b → b ≤ n → a < n
 lt-le l m = omega arith
 
 abbrev Inv-loop : tie.InvT-loop
-Inv-loop inner outer list values scratch₀ marks inner-shapes inner-tables outer-shapes outer-tables matrix costs halves planes₀ held₀ n₀ r₀ scratch planes held n r =
-    FrameTables inner outer values inner-shapes inner-tables outer-shapes outer-tables matrix costs halves
+Inv-loop inner outer list values scratch₀ marks outer-shapes outer-tables matrix costs halves planes₀ held₀ n₀ r₀ scratch planes held n r =
+    FrameTables inner outer values outer-shapes outer-tables matrix costs halves
     × AfterRows inner outer list values marks costs scratch₀ r n planes held scratch
 
 abbrev μ-loop : tie.MeasureT-loop
-μ-loop inner outer list values scratch₀ marks inner-shapes inner-tables outer-shapes outer-tables matrix costs halves planes₀ held₀ n₀ r₀ scratch planes held n r = 16 - r
+μ-loop inner outer list values scratch₀ marks outer-shapes outer-tables matrix costs halves planes₀ held₀ n₀ r₀ scratch planes held n r = 16 - r
 
 shapes-of-requires : tie.Need-shapes-of-requires Inv-loop μ-loop
 shapes-of-requires c κs = search needs
 
 tables-of-requires : tie.Need-tables-of-requires Inv-loop μ-loop
 tables-of-requires c κs = search needs
-
-shapes-of-requires-2 : tie.Need-shapes-of-requires-2 Inv-loop μ-loop
-shapes-of-requires-2 c κs = search needs
-
-tables-of-requires-2 : tie.Need-tables-of-requires-2 Inv-loop μ-loop
-tables-of-requires-2 c κs = search needs
 
 cast-kernel-rows : tie.Need-cast-kernel-rows Inv-loop μ-loop
 cast-kernel-rows c = search needs
@@ -73,8 +67,7 @@ loop-holds c =
     let h = c .before .before .before .before .free-eight in
     let f = c .before .before .first-path .ensures in (
       record {
-        inner-tables = (c .before .before .before .before .before .before .before .before .before .before .before .shapes-of .ensures, c .before .before .before .before .before .before .before .before .before .before .tables-of .ensures);
-        outer-tables = (c .before .before .before .before .before .before .before .before .before .shapes-of2 .ensures, c .before .before .before .before .before .before .before .before .tables-of2 .ensures);
+        outer-tables = (c .before .before .before .before .before .before .before .before .before .shapes-of .ensures, c .before .before .before .before .before .before .before .before .tables-of .ensures);
         matrix-is = c .before .before .before .before .before .before .before .kernel-rows .ensures;
         cost-room = search needs;
         costs-within = o .ensures .1;
@@ -88,7 +81,7 @@ loop-holds c =
 row-costs-requires : tie.Need-row-costs-requires Inv-loop μ-loop
 row-costs-requires c κs =
     let k = c .before .before .before .before .before .before .before .loop in
-    let z = c .before .before .before .before .before .before .before .before .before .before .before .before .before .before .before .before .before .before .before .before .before in
+    let z = c .before .before .before .before .before .before .before .before .before .before .before .before .before .before .before .before .before .before .before in
     let t = k .inv .0 in
     let g = k .inv .1 in
     ((z .pre .0 .1, c .before .before .before .before .before .before .loop-test .taken, g .few, t .outer-tables), ((t .cost-room, t .costs-within, t .halves-within, t .halves-are), ((g .held-count, g .held-room), g .kept)))
@@ -101,54 +94,56 @@ array-read-row-phases c = search needs
 
 row-phases-requires : tie.Need-row-phases-requires Inv-loop μ-loop
 row-phases-requires c κs =
-    let k = c .before .before .before .before .before .before .before .before .before .before .before .before .loop in
-    let z = c .before .before .before .before .before .before .before .before .before .before .before .before .before .before .before .before .before .before .before .before .before .before .before .before .before .before in
-    let t = k .inv .0 in
+    let k = c .before .before .before .before .before .before .before .before .before .before .loop in
+    let z = c .before .before .before .before .before .before .before .before .before .before .before .before .before .before .before .before .before .before .before .before .before .before in
     let g = k .inv .1 in
-    let a = z .args in (
-      (z .pre .0 .0, c .before .before .before .before .before .before .before .before .before .before .before .loop-test .taken, z .pre .0 .2, z .pre .0 .3, g .some, g .few, omega (arith, g .room, c .before .before .before .before .before .before .before .before .before .before .before .before .before .before .before .first-path .ensures .1 .0, z .pre .0 .4)),
-      (t .inner-tables, c .before .before .before .before .row-costs .ensures .lanes-within, refl, own, rows-clean (a .inner) (a .outer) (a .list) (a .values .now) (a .t5) _ _ (k .r) (k .n) (k .planes) (k .held) _ g, c .before .before .before .before .row-costs .ensures .twins),
+    let a = z .args in
+    let h = c .before .before .row-costs .ensures in (
+      (z .pre .0 .0, c .before .before .before .before .before .before .before .before .before .loop-test .taken, z .pre .0 .2, z .pre .0 .3, g .some, g .few, omega (arith, g .room, c .before .before .before .before .before .before .before .before .before .before .before .before .before .first-path .ensures .1 .0, z .pre .0 .4)),
+      (h .lanes-within, refl, own, rows-clean (a .inner) (a .outer) (a .list) (a .values .now) (a .t5) _ _ (k .r) (k .n) (k .planes) (k .held) _ g, h .twins),
     )
 
 next-planes-requires : tie.Need-next-planes-requires Inv-loop μ-loop
 next-planes-requires c κs =
-    let k = c .before .before .before .before .before .before .before .before .before .before .before .before .before .before .before .before .before .before .loop in
-    let z = c .before .before .before .before .before .before .before .before .before .before .before .before .before .before .before .before .before .before .before .before .before .before .before .before .before .before .before .before .before .before .before .before in
+    let k = c .before .before .before .before .before .before .before .before .before .before .before .before .before .before .before .before .loop in
+    let z = c .before .before .before .before .before .before .before .before .before .before .before .before .before .before .before .before .before .before .before .before .before .before .before .before .before .before .before .before in
     let g = k .inv .1 in
     let d = c .before .before .before .before .before .row-phases .ensures in
-    ((c .before .before .before .before .before .before .before .before .before .before .before .before .before .before .before .before .before .loop-test .taken, d .few, omega (arith, d .room, g .room, c .before .before .before .before .before .before .before .before .before .before .before .before .before .before .before .before .before .before .before .before .before .first-path .ensures .1 .0, z .pre .0 .4), λ i l. lt-le (d .home-in i l) (g .few)), g .plane-room)
+    ((c .before .before .before .before .before .before .before .before .before .before .before .before .before .before .before .loop-test .taken, d .few, omega (arith, d .room, g .room, c .before .before .before .before .before .before .before .before .before .before .before .before .before .before .before .before .before .before .before .first-path .ensures .1 .0, z .pre .0 .4), λ i l. lt-le (d .home-in i l) (g .few)), g .plane-room)
 
 next-held-requires : tie.Need-next-held-requires Inv-loop μ-loop
 next-held-requires c κs =
-    let k = c .before .before .before .before .before .before .before .before .before .before .before .before .before .before .before .before .before .before .before .before .before .before .loop in
-    let z = c .before .before .before .before .before .before .before .before .before .before .before .before .before .before .before .before .before .before .before .before .before .before .before .before .before .before .before .before .before .before .before .before .before .before .before .before in
+    let k = c .before .before .before .before .before .before .before .before .before .before .before .before .before .before .before .before .before .before .before .before .loop in
+    let z = c .before .before .before .before .before .before .before .before .before .before .before .before .before .before .before .before .before .before .before .before .before .before .before .before .before .before .before .before .before .before .before .before in
     let g = k .inv .1 in
     let d = c .before .before .before .before .before .before .before .before .before .row-phases .ensures in
-    let h = c .before .before .before .before .before .before .before .before .before .before .before .before .before .before .row-costs .ensures in
-    ((z .pre .0 .1, c .before .before .before .before .before .before .before .before .before .before .before .before .before .before .before .before .before .before .before .before .before .loop-test .taken, k .inv .0 .outer-tables .0), (d .few, (λ i l. lt-le (d .home-in i l) (g .few)), h .held-count, h .held-room))
+    let h = c .before .before .before .before .before .before .before .before .before .before .before .before .row-costs .ensures in
+    ((z .pre .0 .1, c .before .before .before .before .before .before .before .before .before .before .before .before .before .before .before .before .before .before .before .loop-test .taken, k .inv .0 .outer-tables .0), (d .few, (λ i l. lt-le (d .home-in i l) (g .few)), h .held-count, h .held-room))
 
 add-r : tie.Need-add-r Inv-loop μ-loop
-add-r c = search (needs, c .before .before .before .before .before .before .before .before .before .before .before .before .before .before .before .before .before .before .before .before .before .before .loop-test .taken)
+add-r c = search (needs, c .before .before .before .before .before .before .before .before .before .before .before .before .before .before .before .before .before .before .before .before .loop-test .taken)
 
 loop-less : tie.Need-loop-less Inv-loop μ-loop
-loop-less c = omega (arith, c .before .before .before .before .before .before .before .before .before .before .before .before .before .before .before .before .before .before .before .before .before .before .loop-test .taken)
+loop-less c = omega (arith, c .before .before .before .before .before .before .before .before .before .before .before .before .before .before .before .before .before .before .before .before .loop-test .taken)
 
 loop-again : tie.Need-loop-again Inv-loop μ-loop
 loop-again c =
-    let k = c .before .before .before .before .before .before .before .before .before .before .before .before .before .before .before .before .before .before .before .before .before .before .before .loop in
-    let z = c .before .before .before .before .before .before .before .before .before .before .before .before .before .before .before .before .before .before .before .before .before .before .before .before .before .before .before .before .before .before .before .before .before .before .before .before .before in
+    let k = c .before .before .before .before .before .before .before .before .before .before .before .before .before .before .before .before .before .before .before .before .before .loop in
+    let z = c .before .before .before .before .before .before .before .before .before .before .before .before .before .before .before .before .before .before .before .before .before .before .before .before .before .before .before .before .before .before .before .before .before in
     let a = z .args in
     let t = k .inv .0 in
     let g = k .inv .1 in
-    let lr = c .before .before .before .before .before .before .before .before .before .before .before .before .before .before .before .before .before .before .before .before .before .before .loop-test .taken in
-    let h = c .before .before .before .before .before .before .before .before .before .before .before .before .before .before .before .row-costs in
+    let lr = c .before .before .before .before .before .before .before .before .before .before .before .before .before .before .before .before .before .before .before .before .loop-test .taken in
+    let h = c .before .before .before .before .before .before .before .before .before .before .before .before .before .row-costs in
     let d = c .before .before .before .before .before .before .before .before .before .before .row-phases in
     let p = c .before .before .before .before .next-planes in
-    let e = c .next-held .ensures in (
+    let e = c .next-held .ensures in
+    let scratch = d .last .1 .1 .1 .1 .1 .1 .0 in
+    let home = d .last .1 .1 .1 .1 .1 .1 .1 .0 in (
       t,
       row-next (a .inner) (a .outer) (a .list) (a .values .now) (a .t5) _ _ (z .pre .0 .0) (t .agree) (k .r) (k .n) (k .planes) (k .held) _ g lr
-          (h .last .1 .1 .1 .1 .1 .1 .1 .1 .0) (h .result) (h .ensures) (d .result) (d .last .1 .1 .1 .1 .1 .1 .1 .1 .0) (d .last .1 .1 .1 .1 .1 .1 .1 .1 .1 .0) (d .ensures)
-          (p .result) _ (subst (λ (x : List ℕ). NextPlanes x (k .r) (d .result) (d .last .1 .1 .1 .1 .1 .1 .1 .1 .0) (d .last .1 .1 .1 .1 .1 .1 .1 .1 .1 .0) (k .planes) (p .result)) (t .matrix-is) (p .ensures .0))
+          (h .last .1 .1 .1 .1 .1 .1 .1 .1 .0) (h .result) (h .ensures) (d .result) scratch home (d .ensures)
+          (p .result) _ (subst (λ (x : List ℕ). NextPlanes x (k .r) (d .result) scratch home (k .planes) (p .result)) (t .matrix-is) (p .ensures .0))
           (p .ensures .1) (e .0 .0) (e .0 .1) (e .1) (λ q f. no-more (a .outer) (z .pre .0 .1) (subst (λ n. Again (a .outer) n) (let x : k .r + 1 ≡ 16 = omega arith in x) f)),
     )
 
@@ -158,9 +153,10 @@ same-length c = search needs
 returns : tie.Need-returns Inv-loop μ-loop
 returns c =
     let k = c .before .loop in
-    let a = c .before .before .before .before .before .before .before .before .before .before .before .before .before .before .before .args in
+    let a = c .before .before .before .before .before .before .before .before .before .before .before .before .before .args in
     let g = k .inv .1 in
-    ((g .room ∙ c .before .before .before .before .first-path .ensures .1 .0, g .rest ∙ c .before .before .before .before .first-path .ensures .1 .1), run-done (a .inner) (a .outer) (a .list) (a .values .now) (a .t5) _ _ (k .r) (k .n) (k .planes) (k .held) _ (search needs) g)
+    let f = c .before .before .before .before .first-path .ensures in
+    ((g .room ∙ f .1 .0, g .rest ∙ f .1 .1), run-done (a .inner) (a .outer) (a .list) (a .values .now) (a .t5) _ _ (k .r) (k .n) (k .planes) (k .held) _ (search needs) g)
 
 pub list-run-spec : {M : Type 1} → statement M
 list-run-spec =
@@ -170,8 +166,6 @@ list-run-spec =
     μ-loop
     shapes-of-requires
     tables-of-requires
-    shapes-of-requires-2
-    tables-of-requires-2
     cast-kernel-rows
     kernel-rows-requires
     outer-costs-requires
