@@ -19,13 +19,13 @@
  * is not always the count of bytes. A buffer that is const is only read. An
  * accepted job writes the front of its output buffers, as many elements as its
  * text says; they may be longer, and what lies past the written part stays as
- * it was. What they held before does not matter. A refusal changes no buffer,
+ * it was. What they held before does not matter, but for the one choice that list
+ * decode's text leaves open. A refusal changes no buffer,
  * with one exception: 13, which only list decode answers, leaves zeros in the
  * first 8192 bytes of its scratch and touches nothing else.
  *
  * A job keeps nothing from one call to the next: what it answers and writes
- * follows from what it is handed, but for the one choice that list decode's text
- * leaves open. All this is proved of the library. It allocates nothing, and
+ * follows from what it is handed, but for that choice. All this is proved of the library. It allocates nothing, and
  * calls nothing but memcpy and memset. Jobs may run at the same time on
  * different buffers.
  *
@@ -92,7 +92,7 @@ enum nospridda_number {
     NOSPRIDDA_NO_AGREEING_PATH = 13   /* no final path of list decode has a checksum that agrees; found last */
 };
 
-/* The outcome of a job without a word: the number, and the place that a
+/* The outcome of a job without a word or a penalty: the number, and the place that a
  * refusal names, counted from 0; 0 where it names none. */
 struct nospridda_outcome {
     uint32_t number;
@@ -266,7 +266,8 @@ struct nospridda_outcome nospridda_frame_decode(
  * values     256 values, each from -127 to 127 and positive for bit 0.
  * mask       32 bytes; it marks 24 phases or more.
  * scratch    8192 bytes of it are used. They end as zeros, whether the request is
- *            accepted or answered with 13; what they held before does not matter.
+ *            accepted or answered with 13; what they held before does not matter,
+ *            but for the choice that is left open below.
  * payload    k/8 bytes are written, the two of the checksum among them.
  *
  * The last two bytes of a payload are the CRC-16 of those before them: polynomial
@@ -278,9 +279,9 @@ struct nospridda_outcome nospridda_frame_decode(
  * with them, as with frame follow. There is one path at first, of no symbols. At a
  * marked phase every path splits in two, with 0 and with 1 next; the paths are
  * ordered by penalty, equal ones by the place of the path that they are from, then
- * 0 before 1, and the first ones stay, as many as list says. At an unmarked phase
- * each path goes on with 0 and keeps its place. With one path the symbols are
- * those of frame decode.
+ * 0 before 1, and the first ones stay, as many as list says, or all where there
+ * are no more than that. At an unmarked phase each path goes on with 0 and keeps
+ * its place. With list 1 the symbols are those of frame decode.
  *
  * The payload is that of a final path whose checksum agrees, and the penalty in
  * the outcome, at most 32512, is the penalty of this path: what its word pays.

@@ -1,6 +1,6 @@
 //! The library's jobs, through its C interface; and for tests alone the two ways to a kernel's word, and sixteen kernels side by side.
 
-/// The outcome of a job without a word.
+/// The outcome of a job without a word or a penalty.
 #[repr(C)]
 #[derive(Clone, Copy, Debug, PartialEq, Eq)]
 pub struct Outcome {

@@ -12,7 +12,7 @@ ghost use Rattle.list_decode.specs.Jobs.{finalPaths, Choice, MayChoose, listDec
 ghost use Rattle.link.specs.Outcomes.{outcomeOf, outcomeWith, outcomeWithTwo, outcomeWithThree, wordOutcomeOf, penaltyOutcomeOf, penaltyOutcomeWithTwo};
 use answer::Answer;
 
-// The outcome of a job without a word: the number of the condition that refused it, 0 if accepted, and the place that it names.
+// The outcome of a job without a word or a penalty: the number of the condition that refused it, 0 if accepted, and the place that it names.
 #[repr(C)]
 pub struct Outcome {
     pub number: u32,

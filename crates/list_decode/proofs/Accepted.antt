@@ -15,7 +15,7 @@ use Rattle.base.proofs.Bool.{or-eq-false}
 use Rattle.bits.specs.Packed.{unpack}
 use Rattle.bits.proofs.Packed.{length-pack}
 use Rattle.payload.specs.Payload.{gather}
-use Rattle.answer.specs.Verdict.{Verdict, done, penalty, refused, isAccepted, Check, settle, after}
+use Rattle.answer.specs.Verdict.{Verdict, done, penalty, isAccepted, Check, settle, after}
 use Rattle.answer.proofs.Settle.{None, none-of, settle-none, settle-stopped, after-refused}
 use Rattle.mask.specs.Mask.{marked, badMask, payloadBytes}
 use Rattle.mask.proofs.Mask.{bytes-marked, bytes-eighth}
@@ -60,7 +60,7 @@ pub marked-bytes : (mask : List ℕ) → length mask ≡ 32 → badMask mask ≡
 unfolding marked
 marked-bytes mask l g = bytes-marked mask l g
 
-list-passes : (a b L : ℕ) (values : List ℤ) (mask : List ℕ) (scratchRoom payloadRoom : ℕ) → None (listDecodeChecks a b L values mask scratchRoom payloadRoom)
+pub list-passes : (a b L : ℕ) (values : List ℤ) (mask : List ℕ) (scratchRoom payloadRoom : ℕ) → None (listDecodeChecks a b L values mask scratchRoom payloadRoom)
     → ListAccepted a b L values mask scratchRoom payloadRoom
 unfolding listDecodeChecks
 list-passes a b L values mask scratchRoom payloadRoom n =

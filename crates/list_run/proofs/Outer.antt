@@ -1,5 +1,5 @@
 -- The outer kernels of each path, one path after the other. Assumes nothing.
-use mathlib.Core.Path.{_≡_, refl, sym, ap, _∙_, subst, subst⁻¹}
+use mathlib.Core.Path.{_≡_, refl, ap, _∙_, subst, subst⁻¹}
 use mathlib.Core.Bool.{Bool, true, false}
 use mathlib.Core.List.{List, [], _∷_, _++_}
 use Prim.Native.Nat.{ℕ, zero, suc, _+_, _*_, _≤_, _<_}
@@ -13,8 +13,8 @@ use Rattle.polar.proofs.Least.{least-bound}
 use Rattle.folds.specs.Rows.{cell}
 use Rattle.kernel.specs.Kernels.{kernelCode}
 use Rattle.lane.specs.Lanes.{laneCosts, PairWithin, LanesWithin}
-use Rattle.lane_phases.specs.Rows.{column as laneColumn, HeldLane, KeptLane}
-use Rattle.lane_totals.specs.Totals.{Again, LeastLane}
+use Rattle.lane_phases.specs.Rows.{column as laneColumn, HeldLane}
+use Rattle.lane_totals.specs.Totals.{LeastLane}
 use Rattle.lane_moves.specs.Moves.{Twins}
 use Rattle.list_run.specs.Run.{RowCosts}
 

@@ -1,14 +1,13 @@
 -- One phase more of a row, stepped or not. Assumes nothing.
 use mathlib.Core.Path.{_≡_, refl, sym, ap, ap₂, _∙_, subst, subst⁻¹}
 use mathlib.Core.Bool.{Bool, true, false, false≢true}
-use mathlib.Core.Logic.{_⊎_, inl, inr}
+use mathlib.Core.Logic.{inl, inr}
 use mathlib.Core.List.{List, [], _∷_, _++_, append-assoc, map}
 use Prim.Native.Nat.{ℕ, zero, suc, _+_, _-_, _*_, _≤_, _<_}
 use native.Mathlib.Numerals.{add-one}
 use native.Mathlib.Omega.{arith}
 use lib.ListN.{length, getD, take, drop, replicate, length-append, length-map, length-drop, length-take, length-replicate}
 use lib.Seq.{take-all, take-append-le, take-append-add, take-append-seam, drop-append-le, length-take-le, take-take}
-use Rattle.base.specs.Bit.{bit}
 use Rattle.bits.specs.Packed.{unpack}
 use Rattle.polar.specs.Code.{least}
 use Rattle.polar.proofs.Least.{least-cong}
@@ -19,7 +18,7 @@ use Rattle.list.specs.Paths.{phase}
 use Rattle.list.proofs.Sort.{all-at}
 use Rattle.list.proofs.Paths.{phase-long}
 use Rattle.path.specs.Path.{HasSymbols, pathAt}
-use Rattle.list_step.specs.Step.{Listed, Paid, rowSymbols, KeptRow, Lanes, PhaseStep, TwoSteps}
+use Rattle.list_step.specs.Step.{Listed, rowSymbols, Lanes, PhaseStep, TwoSteps}
 use Rattle.list_step.specs.Marked.{Clean}
 use Rattle.list_run.specs.Run.{advance, Prices, Long, RowList, InRow, Turned, Advanced, RowDone}
 

@@ -1,29 +1,28 @@
 -- One row more of a frame. Assumes nothing.
 use mathlib.Core.Path.{_≡_, refl, sym, ap, ap₂, _∙_, subst}
-use mathlib.Core.Bool.{Bool, true, false}
+use mathlib.Core.Bool.{Bool}
 use mathlib.Core.List.{List, [], _∷_, _++_}
-use Prim.Native.Nat.{ℕ, zero, suc, _+_, _-_, _*_, _≤_, _<_}
+use Prim.Native.Nat.{ℕ, zero, suc, _+_, _-_, _*_, _<_}
 use native.Mathlib.Nat.{add-zero}
 use native.Mathlib.Numerals.{add-one}
 use native.Mathlib.Decide.{decLt}
 use native.Mathlib.Omega.{arith}
-use lib.IntN.{ℤ, pos}
-use lib.ListN.{length, getD, take, drop, set, length-set, length-drop}
-use lib.Seq.{getD-set-other, length-take-le}
+use lib.IntN.{ℤ}
+use lib.ListN.{length, getD, drop, length-drop}
+use lib.Seq.{getD-set-other}
 use Rattle.base.specs.Bit.{bit, tabulate}
 use Rattle.base.proofs.List.{length-tabulate}
 use Rattle.bits.specs.Packed.{bits}
-use Rattle.bits.proofs.Packed.{length-bits}
 use Rattle.polar.specs.Code.{Code, Costs, channel, least}
 use Rattle.polar.specs.Kernel.{code}
-use Rattle.polar.specs.Stages.{rows, column, pairs}
-use Rattle.kernel.specs.Kernels.{kernel, kernelCode}
+use Rattle.polar.specs.Stages.{rows, column}
+use Rattle.kernel.specs.Kernels.{kernel}
 use Rattle.kernel.specs.Rows.{rowSum, table}
 use Rattle.grid.specs.Grid.{rowsBits}
 use Rattle.grid.proofs.Grid.{rows-bits-at}
 use Rattle.frame.specs.Frames.{frameCode}
 use Rattle.lane.specs.Lanes.{laneBit, laneCosts}
-use Rattle.lane_phases.specs.Rows.{column as laneColumn, HeldLane, KeptLane}
+use Rattle.lane_phases.specs.Rows.{column as laneColumn, KeptLane}
 use Rattle.lane_phases.proofs.Phases.{held-kept-lane}
 use Rattle.lane_totals.specs.Totals.{Again}
 use Rattle.frame_run.proofs.Prefixes.{column-next, planes-next}
@@ -33,9 +32,9 @@ use Rattle.list.specs.Paths.{phase, paths}
 use Rattle.list.proofs.Sort.{all-at}
 use Rattle.list.proofs.Paths.{all-long, paths-long}
 use Rattle.path.specs.Path.{HasSymbols, pathAt}
-use Rattle.list_step.specs.Step.{Listed, Paid, rowSymbols}
+use Rattle.list_step.specs.Step.{Listed, Paid}
 use Rattle.list_step.specs.Marked.{Clean}
-use Rattle.list_run.specs.Run.{advance, Prices, Long, RowList, RowDone, framePaths, AfterRows, RowCosts, NextPlanes, ListRun}
+use Rattle.list_run.specs.Run.{advance, Prices, RowList, RowDone, framePaths, AfterRows, RowCosts, NextPlanes, ListRun}
 use Rattle.list_run.proofs.Phases.{two-parts, row-symbols, listed-clean}
 
 -- Marks that agree give the same paths.

@@ -240,7 +240,7 @@ fn row_phases(
     count
 }
 
-// The list before the first phase: one path, with no symbol and penalty 0.
+// The list before the first phase: one path, with no symbol.
 fn first_path(scratch: &mut [u8])
     requires { ⌜ 4096 ≤ length (now scratch) ⌝ }
     ensures path { λ _. ⌜ HasSymbols [] (pathAt 0 (now (scratch .exit))) ⌝ }

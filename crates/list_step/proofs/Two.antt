@@ -1,7 +1,7 @@
 -- The symbols of lanes and their twins, and the records after one marked phase and after two. Assumes nothing.
 use mathlib.Core.Path.{_≡_, sym, ap, subst, subst⁻¹, _∙_}
 use mathlib.Core.Bool.{Bool, true, false}
-use mathlib.Core.List.{List, [], _∷_, _++_, append-assoc}
+use mathlib.Core.List.{List, [], _∷_, _++_}
 use Prim.Native.Nat.{ℕ, _+_, _*_, _/_, _%_, _≤_, _<_, min}
 use native.Mathlib.Decide.{decLt}
 use native.Mathlib.Omega.{arith}
@@ -12,7 +12,7 @@ use Rattle.base.proofs.List.{length-tabulate, tabulate-at, same-bits}
 use Rattle.bits.specs.Packed.{bits, unpack}
 use Rattle.bits.proofs.Packed.{length-bits, digit-odd}
 use Rattle.folds.specs.Rows.{rowOf, cell}
-use Rattle.lane.specs.Lanes.{laneBit, laneCosts}
+use Rattle.lane.specs.Lanes.{laneBit}
 use Rattle.lane_phases.specs.Rows.{column}
 use Rattle.lane_moves.specs.Moves.{MovedRow, TwinPlane, OwnPlane}
 use Rattle.list.specs.Sort.{inOrder}

@@ -4,7 +4,7 @@ use mathlib.Core.Bool.{Bool, true, false}
 use mathlib.Core.List.{List, [], _∷_, _++_, append-assoc}
 use Prim.Native.Nat.{ℕ, _+_, _-_, _*_, _/_, _%_, _^_, _≤_, _<_, min}
 use native.Mathlib.Omega.{arith}
-use lib.ListN.{length, take, drop, getD, length-append}
+use lib.ListN.{length, take, getD, length-append}
 use lib.Seq.{take-take}
 use Rattle.base.specs.Bit.{odd}
 use Rattle.bits.specs.Packed.{unpack}
@@ -21,7 +21,7 @@ use Rattle.list.specs.Paths.{phase, candidate}
 use Rattle.path.specs.Path.{pathAt}
 use Rattle.list_step.specs.Step.{Listed, Paid, rowSymbols, KeptRow, TwoSteps}
 use Rattle.list_step.specs.Marked.{Clean, chosen}
-use Rattle.list_step.specs.Two.{laneOf, Settled, SettledTwo}
+use Rattle.list_step.specs.Two.{laneOf, SettledTwo}
 use Rattle.list_step.proofs.Rows.{row-long, followed, total-small}
 use Rattle.list_step.proofs.Two.{lane-in, one-small, parent-in, settled-clean, settled-row, settled-count, settled-at, settled-long, settled-listed, settled-paid, settled-from}
 

@@ -16,7 +16,7 @@ use Rattle.list_phase.specs.Next.{Candidate}
 abbrev pub Clean : ℕ → ℕ → List ℕ → Type 0
 Clean at n scratch = (i : ℕ) → i < n → HasSymbols (take at (unpack ((pathAt i scratch) .symbols))) (pathAt i scratch)
 
--- Candidate 2i + b has what path i pays with symbol b, and one that there is not has more than any of them.
+-- Candidate 2i + b has what path i pays with symbol b, and one that there is not has no less than any of them.
 abbrev pub Penalties : List (List ℕ) → ℕ → List ℕ → Type 0
 Penalties pair n pens = ((i : ℕ) (b : Bool) → i < n → getD pens (2 * i + digit b) 0 ≡ cell 0 pair i b) × ((c : ℕ) → 2 * n ≤ c → c < 16 → getD pens c 0 ≡ 32766)
 

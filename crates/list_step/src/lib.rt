@@ -75,7 +75,7 @@ fn phase_totals(
     )
 }
 
-// The penalties of the candidates, path after path, with symbol 0 and with symbol 1. Of those that there are not it is more than
+// The penalties of the candidates, path after path, with symbol 0 and with symbol 1. Of those that there are not it is no less than
 // any penalty.
 fn candidate_penalties(pair: &[[u16; 16]; 2], n: usize) -> [u16; 16]
     requires { ⌜ n ≤ 8 ⌝ }

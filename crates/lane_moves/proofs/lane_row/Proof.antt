@@ -1,7 +1,7 @@
 -- `lane_moves::lane_row` meets its contract: the first l lanes have their entries, and their twins too. Assumes nothing.
 use mathlib.Core.Path.{_≡_, refl}
 use mathlib.Core.List.{[]}
-use Prim.Native.Nat.{ℕ, _-_, _≤_, _<_}
+use Prim.Native.Nat.{_-_, _≤_}
 use native.Mathlib.Omega.{arith}
 use lib.ListN.{length, getD}
 use Rattle.lane_moves.specs.Moves.{Twice}

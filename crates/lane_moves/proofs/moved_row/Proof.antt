@@ -1,6 +1,6 @@
 -- `lane_moves::moved_row` meets its contract: the first l entries are moved, and those of the upper half with them. Assumes nothing.
 use mathlib.Core.Path.{_≡_, refl}
-use Prim.Native.Nat.{ℕ, _-_, _≤_, _<_}
+use Prim.Native.Nat.{_-_, _≤_}
 use native.Mathlib.Omega.{arith}
 use lib.ListN.{length, getD}
 use Rattle.lane_moves.specs.Moves.{Twice}

@@ -1,7 +1,7 @@
 -- `lane_moves::planes_of` meets its contract: the planes have the words of the first l lanes. Assumes nothing.
 use mathlib.Core.Path.{_≡_, ap}
 use mathlib.Core.List.{List}
-use Prim.Native.Nat.{ℕ, _-_, _≤_, _<_}
+use Prim.Native.Nat.{ℕ, _-_, _≤_}
 use native.Mathlib.Omega.{arith}
 use lib.ListN.{getD}
 use Rattle.lane.specs.Lanes.{laneBits}

@@ -1,9 +1,8 @@
 -- `lane_totals::stepped` meets its contract. Assumes nothing.
-use mathlib.Core.Path.{_≡_, ap, sym, _∙_}
+use mathlib.Core.Path.{ap, _∙_}
 use mathlib.Core.List.{List, []}
 use Prim.Native.Nat.{ℕ, _-_, _^_}
 use lib.ListN.{getD}
-use Rattle.windows.specs.Tables.{shapeTable}
 use Rattle.windows.proofs.Stepping.{in-range}
 use borrow.Author.Needs.{needs}
 use Rattle.lane_totals.proofs.stepped.Statement.{statement}

@@ -3,8 +3,7 @@ use mathlib.Core.Path.{_≡_, refl, subst}
 use Prim.Native.Nat.{ℕ, _-_, _≤_, _<_}
 use native.Mathlib.Omega.{arith}
 use lib.ListN.{length}
-use Rattle.lane.specs.Lanes.{LanesWithin}
-use Rattle.lane_phases.specs.Rows.{HeldLane, KeptLane}
+use Rattle.lane_phases.specs.Rows.{KeptLane}
 use Rattle.lane_phases.proofs.Phases.{held-kept-lane}
 use Rattle.lane_totals.specs.Totals.{Again}
 use borrow.Author.Needs.{needs}

@@ -1,5 +1,5 @@
 -- `list_run::first_path` meets its contract. Assumes nothing.
-use mathlib.Core.Path.{_≡_, refl, sym, ap, _∙_, subst⁻¹}
+use mathlib.Core.Path.{refl, subst⁻¹}
 use mathlib.Core.List.{[]}
 use Rattle.bits.specs.Packed.{bits, unpack}
 use Rattle.path.specs.Path.{HasSymbols}

@@ -1,10 +1,9 @@
 -- `list_run::list_run` meets its contract: row after row. Assumes nothing.
-use mathlib.Core.Path.{_≡_, refl, sym, ap, _∙_, subst}
+use mathlib.Core.Path.{_≡_, refl, _∙_, subst}
 use mathlib.Core.List.{List, [], _∷_}
-use Prim.Native.Nat.{ℕ, zero, suc, _+_, _*_, _-_, _≤_, _<_}
+use Prim.Native.Nat.{ℕ, zero, suc, _+_, _-_, _≤_, _<_}
 use native.Mathlib.Omega.{arith}
-use lib.ListN.{length, getD, replicate}
-use Rattle.kernel.specs.Rows.{table}
+use lib.ListN.{getD, replicate}
 use Rattle.lane_totals.specs.Totals.{Again}
 use Rattle.frame_run.proofs.Premises.{lanes-wider}
 use Rattle.list_run.specs.Run.{AfterRows, NextPlanes, FrameTables}

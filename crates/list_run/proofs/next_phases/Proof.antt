@@ -1,5 +1,5 @@
 -- `list_run::next_phases` meets its contract. Assumes nothing.
-use mathlib.Core.Path.{_≡_, sym, _∙_, subst⁻¹}
+use mathlib.Core.Path.{sym, _∙_, subst⁻¹}
 use mathlib.Core.Bool.{true, false, false≢true}
 use Prim.Native.Nat.{_+_, _*_}
 use Rattle.folds.specs.Rows.{select}

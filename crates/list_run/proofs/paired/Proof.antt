@@ -1,7 +1,6 @@
 -- `list_run::paired` meets its contract. Assumes nothing.
-use mathlib.Core.Path.{_≡_, sym, _∙_}
-use mathlib.Core.Bool.{Bool, true, false, not, _&&_, and-eq-true-iff, false≢true}
-use Prim.Native.Nat.{_<_}
+use mathlib.Core.Path.{sym, _∙_}
+use mathlib.Core.Bool.{true, false, not, _&&_, and-eq-true-iff, false≢true}
 use native.Mathlib.Omega.{arith}
 use borrow.Author.Tests.{not-true}
 use borrow.Author.Needs.{needs}

@@ -1,9 +1,9 @@
 -- `list_run::row_costs` meets its contract: the first i paths have their pairs. Assumes nothing.
-use mathlib.Core.Path.{_≡_, refl, sym, ap, _∙_, subst⁻¹}
+use mathlib.Core.Path.{subst⁻¹}
 use mathlib.Core.List.{List, []}
-use Prim.Native.Nat.{ℕ, _+_, _-_, _≤_, _<_}
+use Prim.Native.Nat.{ℕ, _-_, _≤_, _<_}
 use native.Mathlib.Omega.{arith}
-use lib.ListN.{length, getD}
+use lib.ListN.{getD}
 use Rattle.lane_phases.specs.Rows.{KeptLane}
 use Rattle.frame_run.proofs.Premises.{lanes-wider}
 use Rattle.list_run.proofs.Outer.{PairsSo, none-yet, pairs-next, pairs-done}

@@ -1,7 +1,7 @@
 -- `list_run::turn` meets its contract: an unmarked phase before the last leaves everything. Assumes nothing.
-use mathlib.Core.Path.{_≡_, refl, sym, ap, _∙_, subst}
-use mathlib.Core.Bool.{Bool, true, false, not, _&&_, and-eq-true-iff}
-use mathlib.Core.Logic.{_⊎_, inl, inr}
+use mathlib.Core.Path.{_≡_, refl, subst}
+use mathlib.Core.Bool.{not, and-eq-true-iff}
+use mathlib.Core.Logic.{inl, inr}
 use Prim.Native.Nat.{suc, _+_, _*_, _<_}
 use native.Mathlib.Omega.{arith}
 use lib.Dec.{ltb}

@@ -1,10 +1,9 @@
 -- `list_step::settle` meets its contract. Assumes nothing.
-use mathlib.Core.Path.{_≡_, subst, subst⁻¹}
+use mathlib.Core.Path.{subst}
 use mathlib.Core.List.{List}
-use Prim.Native.Nat.{ℕ, _*_, _≤_, _<_, min}
+use Prim.Native.Nat.{ℕ, _≤_}
 use native.Mathlib.Omega.{arith}
 use lib.ListN.{getD}
-use Rattle.list.specs.Sort.{inOrder}
 use Rattle.path.specs.Path.{pathAt}
 use Rattle.list_phase.specs.Next.{Candidate}
 use Rattle.list_step.proofs.Candidates.{penalties-small, inside}

@@ -1,7 +1,7 @@
 -- `list_step::settle_two` meets its contract. Assumes nothing.
-use mathlib.Core.Path.{_≡_, _∙_}
+use mathlib.Core.Path.{_∙_}
 use mathlib.Core.List.{List, [], _∷_}
-use Prim.Native.Nat.{ℕ, _*_, _/_, _≤_, _<_, min}
+use Prim.Native.Nat.{ℕ}
 use native.Mathlib.Omega.{arith}
 use Rattle.list_step.proofs.Candidates.{inside}
 use Rattle.list_step.proofs.Two.{one-is, one-small, two-is, lanes-below, from-below, from-is, two-small, settled-two}
