@@ -38,6 +38,14 @@ const ALL: [u64; 4] = [
 
 const NONE: [u64; 4] = [0, 0, 0, 0];
 
+// Pair (1, 2), 96 phases: of a list of two the first path fails the checksum and the second passes.
+const SECOND: [u64; 4] = [
+    0x105729bd2fe53b89,
+    0x0dc7d4fdb01cc676,
+    0xa5f5eeac717e714d,
+    0x553ce6fc2eb7a19d,
+];
+
 // Words that were heard, with their errors. Pair (1, 2), 96 phases: the third path agrees.
 const THIRD: [u64; 4] = [
     0x99a23f2c9fa83532,
@@ -258,7 +266,15 @@ fn single(label: &[u8], inner: u8, outer: u8, values: &[i8], mask: &[u8]) {
     }
 }
 
-// Paths that agree late, and lists that are too short for them.
+// A frame whose first path fails the checksum and whose second passes, and a list with no room for it.
+fn second_cases() {
+    let m = bytes_of(MASK_96);
+    let second = values_of(SECOND, NONE);
+    decoded(b"second agrees, L 2", 1, 2, 2, &second, &m);
+    decoded(b"second agrees, L 1", 1, 2, 1, &second, &m);
+}
+
+// Frames that a longer list gets right and a shorter one does not, and unmarked phases at the end.
 fn late_cases() {
     let m = bytes_of(MASK_96);
     let third = values_of(THIRD, NONE);
@@ -438,6 +454,7 @@ fn last_conditions() {
 }
 
 fn main() {
+    second_cases();
     late_cases();
     single_cases();
     wrong_cases();
