@@ -31,9 +31,9 @@
  *
  * The library is built for x86-64 Linux, because that is what the kit that
  * proves it compiles for. Firmware on another processor needs the kit's back
- * end for that processor. On x86-64 frame follow and frame decode take at most
- * 10.8 KiB of stack, kernel follow 4.3 KiB, and 2.4 KiB by the Hadamard engine
- * (measured, not proved; see docs/BENCH.md).
+ * end for that processor. On x86-64 list decode takes at most 26.9 KiB of stack,
+ * frame follow and frame decode 9.8 KiB, kernel follow 4.4 KiB, and 2.4 KiB by the
+ * Hadamard engine (measured, not proved; see docs/BENCH.md).
  *
  * What the caller must keep, and nothing proves or looks at:
  *
