@@ -8,13 +8,12 @@ use native.Mathlib.Omega.{arith}
 use borrow.Author.Tests.{not-false, eqb-true, ltb-false}
 use lib.Dec.{ltb}
 use lib.IntN.{ℤ}
-use lib.ListN.{length, getD, take, drop, replicate, length-replicate}
-use lib.Seq.{drop-drop, take-at}
+use lib.ListN.{length, getD, drop, replicate, length-replicate}
+use lib.Seq.{drop-drop}
 use Rattle.base.specs.Bit.{bit}
 use Rattle.base.proofs.Bool.{or-eq-false}
 use Rattle.bits.specs.Packed.{unpack}
 use Rattle.bits.proofs.Packed.{length-pack}
-use Rattle.payload.specs.Payload.{gather}
 use Rattle.answer.specs.Verdict.{Verdict, done, penalty, isAccepted, Check, settle, after}
 use Rattle.answer.proofs.Settle.{None, none-of, settle-none, settle-stopped, after-refused}
 use Rattle.mask.specs.Mask.{marked, badMask, payloadBytes}
@@ -32,8 +31,9 @@ use Rattle.path.specs.Path.{HasSymbols, pathAt}
 use Rattle.path.specs.declared.Path.{Path}
 use Rattle.decode.specs.Jobs.{valueCheck}
 use Rattle.list_run.specs.Run.{framePaths, ListRun}
-use Rattle.list_decode.specs.Jobs.{listDecodeChecks, finalPaths, payloadOf, agreesAt, Choice, chosen, none, MayChoose, verdictOf, chosenPayload, listDecode}
-use Rattle.list_decode.specs.Found.{symbolsAt, FirstAgreeing, HandedOut}
+use Rattle.agreeing.specs.Agreeing.{payloadOf, agreesAt}
+use Rattle.list_decode.specs.Jobs.{listDecodeChecks, finalPaths, Choice, chosen, none, MayChoose, verdictOf, chosenPayload, listDecode}
+use Rattle.agreeing.specs.Found.{symbolsAt, FirstAgreeing, HandedOut}
 use Rattle.list_decode.proofs.Choices.{some-choice}
 
 -- Values that pass: none is outside.
@@ -89,20 +89,6 @@ list-passes a b L values mask scratchRoom payloadRoom n =
       payload-room = rw (bytes-eighth mask l g) (ltb-false payloadRoom (marked mask / 8) (r .0));
       scratch-room = ltb-false scratchRoom 8192 (r .1);
     }
-
--- A payload that was written to the front of 32 bytes is what their first bytes are,
-pub front : (mask : List ℕ) (u : List Bool) (old new : List ℕ) (bytes : ℕ) → 8 * bytes ≡ marked mask → new ≡ payloadOf mask u ++ drop (marked mask / 8) old
-    → take bytes new ≡ payloadOf mask u
-front mask u old new bytes e f =
-    let k : marked mask / 8 ≡ bytes = omega arith in
-    ap (take bytes) f ∙ take-at (payloadOf mask u) (drop (marked mask / 8) old) bytes (length-pack (marked mask / 8) (gather (unpack mask) u) ∙ k)
-
--- and there are so many of them.
-pub front-count : (mask : List ℕ) (u : List Bool) (old new : List ℕ) (bytes : ℕ) → 8 * bytes ≡ marked mask → new ≡ payloadOf mask u ++ drop (marked mask / 8) old
-    → length (take bytes new) ≡ bytes
-front-count mask u old new bytes e f =
-    let k : marked mask / 8 ≡ bytes = omega arith in
-    ap length (front mask u old new bytes e f) ∙ length-pack (marked mask / 8) (gather (unpack mask) u) ∙ k
 
 -- A record of a path of 256 symbols has them all.
 whole : (p : List Bool) (path : Path) → length p ≡ 256 → HasSymbols p path → unpack (path .symbols) ≡ p

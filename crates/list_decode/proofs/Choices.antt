@@ -2,8 +2,7 @@
 use mathlib.Core.Path.{_≡_, refl, sym, ap, _∙_}
 use mathlib.Core.Bool.{Bool, true, false, false≢true}
 use mathlib.Core.List.{List, [], _∷_}
-use Prim.Native.Nat.{ℕ, zero, suc, _+_, _<_}
-use native.Mathlib.Decide.{decLt}
+use Prim.Native.Nat.{ℕ, zero, suc, _<_}
 use native.Mathlib.Omega.{arith}
 use lib.IntN.{ℤ}
 use lib.ListN.{length, getD, take}
@@ -19,7 +18,8 @@ use Rattle.polar.proofs.Follow.{length-decode}
 use Rattle.list.proofs.Paths.{kept-exact, single}
 use Rattle.frame.specs.Frames.{frameCode}
 use Rattle.decode.specs.Jobs.{decided}
-use Rattle.list_decode.specs.Jobs.{listDecodeChecks, finalPaths, agreesAt, Choice, chosen, none, MayChoose, verdictOf, listDecode}
+use Rattle.agreeing.specs.Agreeing.{agreesAt}
+use Rattle.list_decode.specs.Jobs.{listDecodeChecks, finalPaths, Choice, chosen, none, MayChoose, verdictOf, listDecode}
 
 no-more : (u : List Bool) (us : List (List Bool)) (mask : List ℕ) → agreesAt mask u ≡ false → MayChoose us mask none → MayChoose (u ∷ us) mask none
 no-more u us mask e m zero l = e
@@ -63,11 +63,3 @@ module _ (a b : ℕ) (values : List ℤ) (mask : List ℕ) where
       let u = decode (frameCode a b) (channel values) (bit (unpack mask)) in
       single (frameCode a b) (channel values) (bit (unpack mask)) 256 (omega arith)
       ∙ ap (λ (p : List Bool). p ∷ []) (take-all 256 u (omega (arith, length-decode (frameCode a b) (channel values) (bit (unpack mask)))))
-
--- One record more that does not agree.
-pub none-before : (f : ℕ → Bool) (i : ℕ) → ((j : ℕ) → j < i → f j ≡ false) → f i ≡ false → (j : ℕ) → j < i + 1 → f j ≡ false
-none-before f i h e j l = go (decLt j i)
-  where
-    go : Dec (j < i) → f j ≡ false
-    go (yes k) = h j k
-    go (no k) = let q : j ≡ i = omega (arith, k) in ap f q ∙ e

@@ -16,7 +16,8 @@ use Rattle.polar.specs.Exact.{ExactPenalty}
 use Rattle.frame.specs.Frames.{frameCode}
 use Rattle.frame_run.proofs.Premises.{penalty-small}
 use Rattle.list.proofs.Paths.{paths-long}
-use Rattle.list_decode.specs.Jobs.{listDecodeChecks, finalPaths, payloadOf, Choice, chosen, none, MayChoose, verdictOf, listDecode}
+use Rattle.agreeing.specs.Agreeing.{payloadOf}
+use Rattle.list_decode.specs.Jobs.{listDecodeChecks, finalPaths, Choice, chosen, none, MayChoose, verdictOf, listDecode}
 use Rattle.list_decode.specs.Exact.{AnswerExact}
 use Rattle.list_decode.proofs.Choices.{final-exact}
 use Rattle.list_decode.proofs.Accepted.{list-passes}

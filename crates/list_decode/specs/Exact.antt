@@ -8,7 +8,8 @@ use lib.ListN.{length, getD, drop}
 use Rattle.polar.specs.Code.{channel}
 use Rattle.polar.specs.Exact.{ExactPenalty}
 use Rattle.frame.specs.Frames.{frameCode}
-use Rattle.list_decode.specs.Jobs.{finalPaths, payloadOf, agreesAt}
+use Rattle.agreeing.specs.Agreeing.{payloadOf, agreesAt}
+use Rattle.list_decode.specs.Jobs.{finalPaths}
 
 -- The answer q, and what the payload buffer holds afterwards, belong to a final path whose checksum agrees: its payload is written, and q is
 -- the least total of the words that agree with all its symbols; no answer is above 32,512.

@@ -7,13 +7,12 @@ use lib.Dec.{eqb, ltb}
 use lib.IntN.{ℤ}
 use lib.ListN.{length, getD, replicate}
 use Rattle.base.specs.Bit.{bit}
-use Rattle.bits.specs.Packed.{unpack, pack}
-use Rattle.checksum.specs.Checksum.{agrees}
-use Rattle.payload.specs.Payload.{gather}
+use Rattle.bits.specs.Packed.{unpack}
 use Rattle.answer.specs.Verdict.{Verdict, done, penalty, refused, Check, condition, settle, after}
 use Rattle.mask.specs.Mask.{marked, badMask}
 use Rattle.polar.specs.Code.{channel, least}
 use Rattle.list.specs.Paths.{paths}
+use Rattle.agreeing.specs.Agreeing.{payloadOf, agreesAt}
 use Rattle.kernel.specs.Jobs.{isPair}
 use Rattle.frame.specs.Frames.{frameCode}
 use Rattle.decode.specs.Jobs.{valueCheck}
@@ -34,14 +33,6 @@ listDecodeChecks a b L values mask scratchRoom payloadRoom =
 -- The final paths: those that a list of L keeps after all 256 phases, in their order.
 abbrev pub finalPaths : ℕ → ℕ → ℕ → List ℤ → List ℕ → List (List Bool)
 finalPaths a b L values mask = paths (frameCode a b) (channel values) (bit (unpack mask)) L 256
-
--- The payload of a path: its symbols at the marked phases in rising order, its checksum bytes among them.
-abbrev pub payloadOf : List ℕ → List Bool → List ℕ
-payloadOf mask u = pack (marked mask / 8) (gather (unpack mask) u)
-
--- Whether the checksum of a path agrees: the last two bytes of its payload are the CRC-16 of the others.
-abbrev pub agreesAt : List ℕ → List Bool → Bool
-agreesAt mask u = agrees (payloadOf mask u)
 
 -- What the decoder chooses: a position in the list of the final paths, or none of them.
 pub data Choice : Type 0 where

@@ -1,3 +1,2 @@
 pub mod Jobs
-pub mod Found
 pub mod Exact

@@ -1,4 +1,4 @@
--- `list_decode::path_payload` meets its contract: it gathers the symbols of the record. Assumes nothing.
+-- `agreeing::path_payload` meets its contract: it gathers the symbols of the record. Assumes nothing.
 use mathlib.Core.Path.{_≡_, sym, ap, _∙_}
 use mathlib.Core.List.{_++_}
 use Prim.Native.Nat.{_/_}
@@ -7,10 +7,10 @@ use lib.ListN.{length, drop}
 use Rattle.bits.specs.Packed.{unpack}
 use Rattle.mask.specs.Mask.{marked}
 use Rattle.path.specs.declared.Path.{Path}
-use Rattle.list_decode.specs.Jobs.{payloadOf}
+use Rattle.agreeing.specs.Agreeing.{payloadOf}
 use borrow.Author.Needs.{needs}
-use Rattle.list_decode.proofs.path_payload.Statement.{statement}
-use Rattle.list_decode.proofs.path_payload.Tie as tie
+use Rattle.agreeing.proofs.path_payload.Statement.{statement}
+use Rattle.agreeing.proofs.path_payload.Tie as tie
 
 load-requires : tie.Need-load-requires
 load-requires c κs = search needs

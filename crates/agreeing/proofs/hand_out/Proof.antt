@@ -1,10 +1,10 @@
--- `list_decode::hand_out` meets its contract. Assumes nothing.
+-- `agreeing::hand_out` meets its contract. Assumes nothing.
 use mathlib.Core.Path.{refl, ap}
 use native.Mathlib.Omega.{arith}
 use borrow.Author.Needs.{needs}
 use Rattle.answer.specs.Verdict.{penalty}
-use Rattle.list_decode.proofs.hand_out.Statement.{statement}
-use Rattle.list_decode.proofs.hand_out.Tie as tie
+use Rattle.agreeing.proofs.hand_out.Statement.{statement}
+use Rattle.agreeing.proofs.hand_out.Tie as tie
 
 path-payload-requires : tie.Need-path-payload-requires
 path-payload-requires c κs = search needs

@@ -1,14 +1,14 @@
--- `list_decode::first_agreeing` meets its contract. The loop's invariant: no record before has an agreeing checksum. Assumes nothing.
+-- `agreeing::first_agreeing` meets its contract. The loop's invariant: no record before has an agreeing checksum. Assumes nothing.
 use mathlib.Core.Path.{_≡_, sym, _∙_}
 use mathlib.Core.Bool.{false}
 use Prim.Native.Nat.{ℕ, _-_, _≤_, _<_}
 use native.Mathlib.Omega.{arith}
 use borrow.Author.Needs.{needs}
-use Rattle.list_decode.specs.Jobs.{agreesAt}
-use Rattle.list_decode.specs.Found.{symbolsAt}
-use Rattle.list_decode.proofs.Choices.{none-before}
-use Rattle.list_decode.proofs.first_agreeing.Statement.{statement}
-use Rattle.list_decode.proofs.first_agreeing.Tie as tie
+use Rattle.agreeing.specs.Agreeing.{agreesAt}
+use Rattle.agreeing.specs.Found.{symbolsAt}
+use Rattle.agreeing.proofs.Records.{none-before}
+use Rattle.agreeing.proofs.first_agreeing.Statement.{statement}
+use Rattle.agreeing.proofs.first_agreeing.Tie as tie
 
 abbrev Inv-loop : tie.InvT-loop
 Inv-loop scratch n mask bytes i₀ i = (i ≤ n) × ((j : ℕ) → j < i → agreesAt mask (symbolsAt scratch j) ≡ false)

@@ -8,7 +8,7 @@ use Rattle.bits.specs.Packed.{unpack}
 use Rattle.answer.specs.Verdict.{Verdict, penalty, refused}
 use Rattle.mask.specs.Mask.{marked}
 use Rattle.path.specs.Path.{pathAt}
-use Rattle.list_decode.specs.Jobs.{payloadOf, agreesAt}
+use Rattle.agreeing.specs.Agreeing.{payloadOf, agreesAt}
 
 -- The symbols of record i.
 abbrev pub symbolsAt : List ℕ → ℕ → List Bool

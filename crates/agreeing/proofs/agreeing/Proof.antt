@@ -1,12 +1,12 @@
--- `list_decode::agreeing` meets its contract: the checksum is that of the first bytes, the record's payload. Assumes nothing.
+-- `agreeing::agreeing` meets its contract: the checksum is that of the first bytes, the record's payload. Assumes nothing.
 use mathlib.Core.Path.{sym, ap, _∙_}
 use native.Mathlib.Omega.{arith}
 use lib.ListN.{replicate}
 use Rattle.checksum.specs.Checksum.{agrees}
-use Rattle.list_decode.proofs.Accepted.{front, front-count}
+use Rattle.agreeing.proofs.Records.{front, front-count}
 use borrow.Author.Needs.{needs}
-use Rattle.list_decode.proofs.agreeing.Statement.{statement}
-use Rattle.list_decode.proofs.agreeing.Tie as tie
+use Rattle.agreeing.proofs.agreeing.Statement.{statement}
+use Rattle.agreeing.proofs.agreeing.Tie as tie
 
 slice-aggregate-path-payload : tie.Need-slice-aggregate-path-payload
 slice-aggregate-path-payload c = search needs
