@@ -72,6 +72,19 @@ symbol-byte : (s : List ℕ) (i k : ℕ) → k < 32 → getD (pathAt i s .symbol
 symbol-byte s i k h =
     getD-take 32 (take 36 (drop (512 * i) s)) k 0 h ∙ getD-take 36 (drop (512 * i) s) k 0 (omega arith) ∙ getD-drop (512 * i) s k 0
 
+-- Byte k of the penalty of record i,
+penalty-byte : (s : List ℕ) (i at k : ℕ) → k < 4 → at ≡ 512 * i + 32 → getD (drop 32 (take 36 (drop (512 * i) s))) k 0 ≡ getD s (at + k) 0
+penalty-byte s i at k h e =
+    let f : 512 * i + (32 + k) ≡ at + k = omega (arith, e) in
+    getD-drop 32 (take 36 (drop (512 * i) s)) k 0 ∙ getD-take 36 (drop (512 * i) s) (32 + k) 0 (omega (arith, h)) ∙ getD-drop (512 * i) s (32 + k) 0 ∙ ap (λ j. getD s j 0) f
+
+-- and the penalty, from its four bytes.
+pub penalty-read : (s : List ℕ) (i at n : ℕ) → at ≡ 512 * i + 32
+    → n ≡ getD s at 0 * 16777216 + getD s (at + 1) 0 * 65536 + getD s (at + 2) 0 * 256 + getD s (at + 3) 0 → n ≡ pathAt i s .penalty
+penalty-read s i at n e f =
+    let z : at + 0 ≡ at = omega arith in
+    omega (arith, f, penalty-byte s i at 0 (omega arith) e, ap (λ j. getD s j 0) z, penalty-byte s i at 1 (omega arith) e, penalty-byte s i at 2 (omega arith) e, penalty-byte s i at 3 (omega arith) e)
+
 -- Row r of the symbols of record i, from its two bytes.
 pub row-bits : (s : List ℕ) (i r at w : ℕ) → i < 8 → r < 16 → 4096 ≤ length s → at ≡ 512 * i + 2 * r
     → w ≡ 256 * getD s at 0 + getD s (at + 1) 0 → getD s (at + 1) 0 < 256

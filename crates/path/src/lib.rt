@@ -122,6 +122,20 @@ pub fn load(scratch: &[u8], i: usize) -> Path
     path_of(b)
 }
 
+// The penalty of record i.
+pub fn penalty_at(scratch: &[u8], i: usize) -> u32
+    requires { ⌜ (i < 8) × (4096 ≤ length (now scratch)) ⌝ }
+    ensures { λ r. ⌜ r ≡ (pathAt i (now (scratch .entry))) .penalty ⌝ }
+{
+    let at = 512 * i + 32;
+    number_of(
+        scratch[at],
+        scratch[at + 1],
+        scratch[at + 2],
+        scratch[at + 3],
+    )
+}
+
 // The number of two bytes, the high one first.
 fn pair(high: u8, low: u8) -> u16
     ensures { λ r. ⌜ (r ≡ 256 * high + low) × (low < 256) ⌝ }
