@@ -19,15 +19,14 @@
  * is not always the count of bytes. A buffer that is const is only read. An
  * accepted job writes the front of its output buffers, as many elements as its
  * text says; they may be longer, and what lies past the written part stays as
- * it was. What they held before does not matter, but for the one choice that list
- * decode's text leaves open. A refusal changes no buffer,
+ * it was. What they held before does not matter. A refusal changes no buffer,
  * with one exception: 13, which only list decode answers, leaves zeros in the
  * first 8192 bytes of its scratch and touches nothing else.
  *
  * A job keeps nothing from one call to the next: what it answers and writes
- * follows from what it is handed, but for that choice. All this is proved of the library. It allocates nothing, and
- * calls nothing but memcpy and memset. Jobs may run at the same time on
- * different buffers.
+ * follows from what it is handed. All this is proved of the library. It allocates
+ * nothing, and calls nothing but memcpy and memset. Jobs may run at the same time
+ * on different buffers.
  *
  * The library is built for x86-64 Linux, because that is what the kit that
  * proves it compiles for. Firmware on another processor needs the kit's back
@@ -266,8 +265,7 @@ struct nospridda_outcome nospridda_frame_decode(
  * values     256 values, each from -127 to 127 and positive for bit 0.
  * mask       32 bytes; it marks 24 phases or more.
  * scratch    8192 bytes of it are used. They end as zeros, whether the request is
- *            accepted or answered with 13; what they held before does not matter,
- *            but for the choice that is left open below.
+ *            accepted or answered with 13; what they held before does not matter.
  * payload    k/8 bytes are written, the two of the checksum among them.
  *
  * The last two bytes of a payload are the CRC-16 of those before them: polynomial
@@ -283,11 +281,12 @@ struct nospridda_outcome nospridda_frame_decode(
  * are no more than that. At an unmarked phase each path goes on with 0 and keeps
  * its place. With list 1 the symbols are those of frame decode.
  *
- * The payload is that of a final path whose checksum agrees, and the penalty in
- * the outcome, at most 32512, is the penalty of this path: what its word pays.
- * Where several final paths agree, it is one of them; which one is left open, and
- * not promised. A checksum can agree by chance: that the payload is the one sent,
- * no job can tell.
+ * The payload is that of the best final path whose checksum agrees: the one of
+ * least penalty, and where several have it, the first of them in the order of the
+ * list. This need not be the first path that agrees, since unmarked phases after
+ * the last marked one change penalties and not the order. The penalty in the
+ * outcome, at most 32512, is the penalty of this path: what its word pays. A
+ * checksum can agree by chance: that the payload is the one sent, no job can tell.
  *
  * Answers 0 with the penalty, or, with scratch and payload left as they were,
  *   1  inner or outer is not 0, 1 or 2;

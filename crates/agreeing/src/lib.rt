@@ -1,4 +1,4 @@
-// The records of a list's paths: which one's checksum agrees, and its payload.
+// The records of a list's paths: the best whose checksum agrees, and its payload.
 ghost use mathlib.Core.Path.{_≡_};
 ghost use mathlib.Core.List.{_++_};
 ghost use Prim.Native.Nat.{_*_, _/_, _≤_, _<_};
@@ -8,7 +8,7 @@ ghost use Rattle.answer.specs.Verdict.{verdict};
 ghost use Rattle.mask.specs.Mask.{marked};
 ghost use Rattle.path.specs.Path.{pathAt};
 ghost use Rattle.agreeing.specs.Agreeing.{payloadOf, agreesAt};
-ghost use Rattle.agreeing.specs.Found.{FirstAgreeing, HandedOut};
+ghost use Rattle.agreeing.specs.Found.{isLower, BestRecord, HandedOut};
 use answer::Answer;
 
 // The payload of the path of record i, to the front of `out`. Answers the path's penalty.
@@ -33,19 +33,36 @@ fn agreeing(scratch: &[u8], i: usize, mask: &[u8], bytes: usize) -> bool
     checksum::agrees(&out[..bytes])
 }
 
-// The first of n records whose path's checksum agrees, or n.
-pub fn first_agreeing(scratch: &[u8], n: usize, mask: &[u8], bytes: usize) -> usize
-    requires { ⌜ (n ≤ 8) × (4096 ≤ length (now scratch)) × (length (now mask) ≡ 32) × (2 ≤ bytes) × (bytes ≤ 32) × (8 * bytes ≡ marked (now mask)) ⌝ }
-    ensures { λ r. ⌜ FirstAgreeing (now (mask .entry)) (now (scratch .entry)) n r ⌝ }
+// Whether record i has a lower penalty than record `best`, the best agreeing one before it. Where `best` is n, there is none before it.
+fn lower(scratch: &[u8], i: usize, best: usize, n: usize) -> bool
+    requires { ⌜ (i < 8) × (best ≤ n) × (n ≤ 8) × (4096 ≤ length (now scratch)) ⌝ }
+    ensures { λ r. ⌜ r ≡ isLower (now (scratch .entry)) n best i ⌝ }
 {
+    if best == n {
+        return true;
+    }
+    path::penalty_at(scratch, i) < path::penalty_at(scratch, best)
+}
+
+// The best of n records: of those whose checksum agrees the first of least penalty. It is n where none agrees. A checksum is looked at
+// only where the penalty is lower than that of the best so far.
+pub fn best_agreeing(scratch: &[u8], n: usize, mask: &[u8], bytes: usize) -> usize
+    requires { ⌜ (n ≤ 8) × (4096 ≤ length (now scratch)) × (length (now mask) ≡ 32) × (2 ≤ bytes) × (bytes ≤ 32) × (8 * bytes ≡ marked (now mask)) ⌝ }
+    ensures { λ r. ⌜ BestRecord (now (mask .entry)) (now (scratch .entry)) n n r ⌝ }
+{
+    let mut best = n;
     let mut i: usize = 0;
     while i < n {
-        if agreeing(scratch, i, mask, bytes) {
-            return i;
+        let low = lower(scratch, i, best, n);
+        if low {
+            let agrees = agreeing(scratch, i, mask, bytes);
+            if agrees {
+                best = i;
+            }
         }
         i += 1;
     }
-    n
+    best
 }
 
 // The answer of record i of n: its payload is written, with its penalty. Where i is n, no path agrees and nothing is written.

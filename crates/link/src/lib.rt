@@ -8,7 +8,7 @@ ghost use Rattle.frame.specs.Jobs.{frameEncode, frameUndo};
 ghost use Rattle.follow.specs.Jobs.{kernelFollow};
 ghost use Rattle.decode.specs.Jobs.{frameFollow, frameDecode};
 ghost use Rattle.quantiser.specs.Jobs.{valuesFromMarks};
-ghost use Rattle.list_decode.specs.Jobs.{finalPaths, Choice, MayChoose, listDecode};
+ghost use Rattle.list_decode.specs.Jobs.{listDecode};
 ghost use Rattle.link.specs.Outcomes.{outcomeOf, outcomeWith, outcomeWithTwo, outcomeWithThree, wordOutcomeOf, penaltyOutcomeOf, penaltyOutcomeWithTwo};
 use answer::Answer;
 
@@ -208,7 +208,7 @@ pub extern "C" fn nospridda_values_from_marks(
     outcome_of(a)
 }
 
-// List decoding: the payload and the penalty of a final path whose checksum agrees. Which one, where several agree, is left open.
+// List decoding: the payload and the penalty of the best agreeing path.
 #[no_mangle]
 pub extern "C" fn nospridda_list_decode(
     inner: u8,
@@ -219,7 +219,7 @@ pub extern "C" fn nospridda_list_decode(
     scratch: &mut [u8],
     payload: &mut [u8],
 ) -> PenaltyOutcome
-    ensures { λ r. ⌜ ((c : Choice) × MayChoose (finalPaths inner outer list (now (values .entry)) (now (mask .entry))) (now (mask .entry)) c × (penaltyOutcomeWithTwo (listDecode inner outer list (now (values .entry)) (now (mask .entry)) (now (scratch .entry)) (now (payload .entry)) c) ≡ (r, now (scratch .exit), now (payload .exit)))) ⌝ }
+    ensures { λ r. ⌜ penaltyOutcomeWithTwo (listDecode inner outer list (now (values .entry)) (now (mask .entry)) (now (scratch .entry)) (now (payload .entry))) ≡ (r, now (scratch .exit), now (payload .exit)) ⌝ }
 {
     let a = list_decode::list_decode(inner, outer, list, values, mask, scratch, payload);
     penalty_outcome_of(a)

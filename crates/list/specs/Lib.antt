@@ -1,3 +1,4 @@
 pub mod Sort
 pub mod Paths
+pub mod Best
 pub mod Ahead

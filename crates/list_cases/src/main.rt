@@ -1,4 +1,4 @@
-// List decoding at its edges: lists of one and of eight, paths that agree late or not at all, every refusal and which of two comes
+// List decoding at its edges: lists of one and of eight, paths that agree late, together or not at all, every refusal and which of two comes
 // first, the places that are named, and what lies past the written parts. Scratch holds a5 and payload 5a before a job.
 ghost use mathlib.Core.Path.{_≡_};
 ghost use Prim.Native.Nat.{_<_};
@@ -101,7 +101,25 @@ const WRONG: [u64; 4] = [
     0xc9fa506350633605,
 ];
 
-// Pair (2, 2), 24 phases: two words agree in all places but these, which are 0, and the checksums of both agree.
+// Pair (0, 2), the mask of 40 phases: the words of two payloads whose checksums agree, 84ac326504 and 84ac766d44, the first with 1 at
+// phase 232; they differ at these places only, whose values are 0. Neither pays as long as that phase is free; at the end the first pays
+// 248.
+const BEHIND: [u64; 4] = [
+    0x7dbe1bd8b4441428,
+    0x1d7478881d747888,
+    0x7dbe1bd8b4441428,
+    0x1d7478881d747888,
+];
+
+const BEHIND_BLANK: [u64; 4] = [
+    0x9696c33c00000000,
+    0x0ff00ff000000000,
+    0x9696c33c00000000,
+    0x0ff00ff000000000,
+];
+
+// Pair (2, 2), 24 phases: the words of two payloads whose checksums agree, 358706 and 37a744; they differ at these places only, whose
+// values are 0, so that both pay 0.
 const TWO: [u64; 4] = [
     0x5aa5a55a69969669,
     0x5aa5a55a96696996,
@@ -316,24 +334,16 @@ fn wrong_cases() {
     decoded(b"all 0, L 8", 1, 2, 8, &zero, &m);
 }
 
-// Two final paths agree, both with penalty 0: either may be answered.
-fn two_case() {
+// Several final paths agree: the one of least penalty is answered, and of equal penalties the first.
+fn several_cases() {
+    let e = bytes_of(EARLY_40);
+    let behind = values_of(BEHIND, BEHIND_BLANK);
+    decoded(b"third and seventh agree, L 8", 0, 2, 8, &behind, &e);
+    decoded(b"third agrees alone, L 4", 0, 2, 4, &behind, &e);
     let m = bytes_of(MASK_24);
-    let values = values_of(TWO, TWO_BLANK);
-    let mut scratch = [0xa5u8; 8200];
-    let mut payload = [0x5au8; 3];
-    let a = list_decode::list_decode(2, 2, 8, &values, &m, &mut scratch, &mut payload);
-    report::say_answer(b"two agree", a);
-    io::write_all(STDOUT_FILENO, b", penalty ");
-    io::print_decimal(STDOUT_FILENO, answer::penalty(a) as u64);
-    say_scratch(&scratch);
-    let one = [0x35u8, 0x87, 0x06];
-    let other = [0x37u8, 0xa7, 0x44];
-    if report::same_from(&payload, &one, 0) || report::same_from(&payload, &other, 0) {
-        io::write_all(STDOUT_FILENO, b", one of the two\n");
-    } else {
-        io::write_all(STDOUT_FILENO, b", neither\n");
-    }
+    let two = values_of(TWO, TWO_BLANK);
+    decoded(b"first and second agree, L 8", 2, 2, 8, &two, &m);
+    decoded(b"first and second agree, L 2", 2, 2, 2, &two, &m);
 }
 
 fn sizes() {
@@ -458,7 +468,7 @@ fn main() {
     late_cases();
     single_cases();
     wrong_cases();
-    two_case();
+    several_cases();
     sizes();
     masks();
     rooms();

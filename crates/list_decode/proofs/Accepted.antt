@@ -1,7 +1,7 @@
 -- What the acceptance of the checks yields, and what list decoding leaves. Assumes nothing.
-use mathlib.Core.Path.{_≡_, refl, sym, ap, ap₂, _∙_}
-use mathlib.Core.Bool.{Bool, true, false, not, _||_}
-use mathlib.Core.List.{List, [], _++_, append-nil}
+use mathlib.Core.Path.{_≡_, refl, sym, ap, ap₂, _∙_, subst}
+use mathlib.Core.Bool.{Bool, true, false, false≢true, not, _||_}
+use mathlib.Core.List.{List, [], _∷_, _++_, append-nil}
 use Prim.Native.Nat.{ℕ, _+_, _-_, _*_, _/_, _≤_, _<_}
 use native.Mathlib.Decide.{decLt}
 use native.Mathlib.Omega.{arith}
@@ -18,9 +18,11 @@ use Rattle.answer.specs.Verdict.{Verdict, done, penalty, isAccepted, Check, set
 use Rattle.answer.proofs.Settle.{None, none-of, settle-none, settle-stopped, after-refused}
 use Rattle.mask.specs.Mask.{marked, badMask, payloadBytes}
 use Rattle.mask.proofs.Mask.{bytes-marked, bytes-eighth}
-use Rattle.polar.specs.Code.{channel, least}
+use Rattle.polar.specs.Code.{channel}
 use Rattle.list.specs.Paths.{paths}
+use Rattle.list.specs.Best.{IsBestAt, BestFirst, begins, empty}
 use Rattle.list.proofs.Paths.{paths-long}
+use Rattle.list.proofs.Best.{best-first, best-only, best-cong}
 use Rattle.folds.specs.Range.{firstOutside}
 use Rattle.folds.proofs.Range.{outside-le}
 use Rattle.kernel.specs.Jobs.{isPair}
@@ -32,9 +34,9 @@ use Rattle.path.specs.declared.Path.{Path}
 use Rattle.decode.specs.Jobs.{valueCheck}
 use Rattle.list_run.specs.Run.{framePaths, ListRun}
 use Rattle.agreeing.specs.Agreeing.{payloadOf, agreesAt}
-use Rattle.list_decode.specs.Jobs.{listDecodeChecks, finalPaths, Choice, chosen, none, MayChoose, verdictOf, chosenPayload, listDecode}
-use Rattle.agreeing.specs.Found.{symbolsAt, FirstAgreeing, HandedOut}
-use Rattle.list_decode.proofs.Choices.{some-choice}
+use Rattle.list_decode.specs.Exact.{BestAgreeing}
+use Rattle.list_decode.specs.Jobs.{listDecodeChecks, finalPaths, finalPenalty, agreeingPaths, verdictOf, firstPayload, listDecode}
+use Rattle.agreeing.specs.Found.{symbolsAt, recordAgrees, recordPenalty, BestRecord, HandedOut}
 
 -- Values that pass: none is outside.
 inside-all : (values : List ℤ) → length values ≡ 256 → (valueCheck values) .holds ≡ false → firstOutside 127 values ≡ 256
@@ -104,45 +106,44 @@ module _ (a b L : ℕ) (values : List ℤ) (mask oldScratch oldPayload : List �
   finals = finalPaths a b L values mask
 
   abbrev total : List Bool → ℕ
-  total = least (frameCode a b) (channel values)
+  total = finalPenalty a b values
+
+  abbrev agreeing : List (List Bool)
+  agreeing = agreeingPaths a b L values mask
 
   -- What the job promises of a verdict and of what the buffers hold then.
   abbrev Decoded : Verdict → List ℕ → List ℕ → Type 0
-  Decoded v scratch payload = (c : Choice) × MayChoose finals mask c × (listDecode a b L values mask oldScratch oldPayload c ≡ (v, scratch, payload))
+  Decoded v scratch payload = listDecode a b L values mask oldScratch oldPayload ≡ (v, scratch, payload)
 
   -- A job that is refused by a check leaves its buffers.
   pub list-refused : (v : Verdict) → v ≡ settle checks done → isAccepted v ≡ false → Decoded v oldScratch oldPayload
   unfolding listDecode
   list-refused v e r =
-      let s = some-choice finals mask in
-      let c = s .0 in
       let zeros : List ℕ = replicate 8192 0 in
-      let new = chosenPayload finals mask c in (
-        c,
-        s .1,
-        ap (λ (x : Verdict). (x, after (settle checks done) oldScratch zeros, after x oldPayload new)) (settle-stopped checks done (verdictOf total finals c) refl (ap isAccepted (sym e) ∙ r))
-            ∙ ap (λ (x : Verdict). (x, after x oldScratch zeros, after x oldPayload new)) (sym e)
-            ∙ ap₂ (λ (x y : List ℕ). (v, x, y)) (after-refused v oldScratch zeros r) (after-refused v oldPayload new r),
-      )
+      let new = firstPayload mask agreeing in
+      ap (λ (x : Verdict). (x, after (settle checks done) oldScratch zeros, after x oldPayload new)) (settle-stopped checks done (verdictOf total agreeing) refl (ap isAccepted (sym e) ∙ r))
+      ∙ ap (λ (x : Verdict). (x, after x oldScratch zeros, after x oldPayload new)) (sym e)
+      ∙ ap₂ (λ (x y : List ℕ). (v, x, y)) (after-refused v oldScratch zeros r) (after-refused v oldPayload new r)
 
   module _ (ok : isAccepted (settle checks done) ≡ true) where
     pub list-accepted : ListAccepted a b L values mask (length oldScratch) (length oldPayload)
     list-accepted = list-passes a b L values mask (length oldScratch) (length oldPayload) (none-of checks done ok)
 
-    -- With the choice c an accepted job answers the verdict of c and leaves zeros in scratch.
-    answered : (c : Choice) → listDecode a b L values mask oldScratch oldPayload c
-        ≡ (verdictOf total finals c, replicate 8192 0 ++ drop 8192 oldScratch, after (verdictOf total finals c) oldPayload (chosenPayload finals mask c))
+    -- An accepted job answers the verdict of the agreeing paths and leaves zeros in scratch.
+    pub answered : (us : List (List Bool)) → agreeing ≡ us → listDecode a b L values mask oldScratch oldPayload
+        ≡ (verdictOf total us, replicate 8192 0 ++ drop 8192 oldScratch, after (verdictOf total us) oldPayload (firstPayload mask us))
     unfolding listDecode
-    answered c =
-        let v = verdictOf total finals c in
+    answered us e =
+        let v = verdictOf total agreeing in
         let zeros : List ℕ = replicate 8192 0 in
-        let new = chosenPayload finals mask c in
+        let new = firstPayload mask agreeing in
         let n = none-of checks done ok in
         ap (λ (x : Verdict). (x, after (settle checks done) oldScratch zeros, after x oldPayload new)) (settle-none checks v n)
         ∙ ap (λ (x : Verdict). (v, after x oldScratch zeros, after v oldPayload new)) (settle-none checks done n)
         ∙ ap (λ k. (v, zeros ++ drop k oldScratch, after v oldPayload new)) (length-replicate {A = ℕ} 8192 0)
+        ∙ ap (λ (l : List (List Bool)). (verdictOf total l, replicate 8192 0 ++ drop 8192 oldScratch, after (verdictOf total l) oldPayload (firstPayload mask l))) e
 
-    module _ (marks : List ℕ) (n r : ℕ) (ran : List ℕ) (em : rowsBits marks ≡ unpack mask) (run : ListRun a b L values marks n ran) (first : FirstAgreeing mask ran n r) where
+    module _ (marks : List ℕ) (n r : ℕ) (ran : List ℕ) (em : rowsBits marks ≡ unpack mask) (run : ListRun a b L values marks n ran) (best : BestRecord mask ran n n r) where
       same-paths : framePaths a b L values marks 256 ≡ finals
       same-paths = ap (λ w. paths (frameCode a b) (channel values) (bit w) L 256) em
 
@@ -158,6 +159,29 @@ module _ (a b L : ℕ) (values : List ℤ) (mask oldScratch oldPayload : List �
       penalty-is : (i : ℕ) → i < n → (pathAt i ran) .penalty ≡ total (getD finals i [])
       penalty-is i l = run .paid i (omega (arith, run .count-is)) ∙ ap (λ (l : List (List Bool)). total (getD l i [])) same-paths
 
+      -- The record that was found is that of the first of the agreeing paths;
+      first-found : r < n → (rest : List (List Bool)) × (agreeing ≡ getD finals r [] ∷ rest)
+      first-found l = go (best-first (agreesAt mask) total [] finals)
+        where
+          found : BestAgreeing a b L values mask r
+          found =
+              subst (λ k. IsBestAt (λ j. agreesAt mask (getD finals j [])) (λ j. total (getD finals j [])) k r) (sym final-count)
+              (best-cong (recordAgrees mask ran) (λ j. agreesAt mask (getD finals j [])) (recordPenalty ran) (λ j. total (getD finals j [])) n r (λ j k. ap (agreesAt mask) (symbols-are j k)) penalty-is (best .found l))
+
+          go : BestFirst (agreesAt mask) total [] finals → (rest : List (List Bool)) × (agreeing ≡ getD finals r [] ∷ rest)
+          go (empty e h) = absurd (false≢true (sym (h r (found .inside)) ∙ found .passes))
+          go (begins i rest b e) = (rest, e ∙ ap (λ k. getD finals k [] ∷ rest) (best-only _ _ _ i r b found))
+
+      -- where none was found, there are none.
+      none-found : n ≤ r → agreeing ≡ []
+      none-found l = go (best-first (agreesAt mask) total [] finals)
+        where
+          go : BestFirst (agreesAt mask) total [] finals → agreeing ≡ []
+          go (empty e h) = e
+          go (begins i rest b e) =
+              let k : i < n = omega (arith, b .inside, final-count) in
+              absurd (false≢true (sym (best .none l i k) ∙ ap (agreesAt mask) (symbols-are i k) ∙ b .passes))
+
       -- An accepted job hands out the path that was found, or 13, and clears the scratch.
       pub list-done : (v : Verdict) (scratch′ payload′ : List ℕ) → drop 4096 ran ≡ drop 4096 oldScratch
           → HandedOut mask ran r n oldPayload v payload′ → scratch′ ≡ replicate 8192 0 ++ drop 8192 ran → Decoded v scratch′ payload′
@@ -169,21 +193,14 @@ module _ (a b L : ℕ) (values : List ℤ) (mask oldScratch oldPayload : List �
 
           go : Dec (r < n) → Decoded v scratch′ payload′
           go (yes l) =
-              let u = getD finals r [] in
-              let new = payloadOf mask u in
-              let o = h .some l in (
-                chosen r,
-                (omega (arith, final-count), ap (agreesAt mask) (sym (symbols-are r l)) ∙ first .found l),
-                answered (chosen r)
-                    ∙ ap₂ (λ (x : Verdict) (y : List ℕ). (x, y, new ++ drop (length new) oldPayload)) (ap penalty (sym (penalty-is r l)) ∙ sym (o .0)) cleared
-                    ∙ ap (λ (y : List ℕ). (v, scratch′, y)) (ap (λ k. new ++ drop k oldPayload) (length-pack _ _) ∙ ap (λ w. payloadOf mask w ++ drop (marked mask / 8) oldPayload) (sym (symbols-are r l)) ∙ sym (o .1)),
-              )
+              let new = payloadOf mask (getD finals r []) in
+              let o = h .some l in
+              answered _ (first-found l .1)
+              ∙ ap₂ (λ (x : Verdict) (y : List ℕ). (x, y, new ++ drop (length new) oldPayload)) (ap penalty (sym (penalty-is r l)) ∙ sym (o .0)) cleared
+              ∙ ap (λ (y : List ℕ). (v, scratch′, y)) (ap (λ k. new ++ drop k oldPayload) (length-pack _ _) ∙ ap (λ w. payloadOf mask w ++ drop (marked mask / 8) oldPayload) (sym (symbols-are r l)) ∙ sym (o .1))
           go (no k) =
               let q : n ≤ r = omega (arith, k) in
-              let o = h .no q in (
-                none,
-                (λ i l. let li : i < n = omega (arith, final-count) in ap (agreesAt mask) (sym (symbols-are i li)) ∙ first .before i (omega arith)),
-                answered none
-                    ∙ ap₂ (λ (x : Verdict) (y : List ℕ). (x, y, oldPayload)) (sym (o .0)) cleared
-                    ∙ ap (λ (y : List ℕ). (v, scratch′, y)) (sym (o .1)),
-              )
+              let o = h .no q in
+              answered [] (none-found q)
+              ∙ ap₂ (λ (x : Verdict) (y : List ℕ). (x, y, oldPayload)) (sym (o .0)) cleared
+              ∙ ap (λ (y : List ℕ). (v, scratch′, y)) (sym (o .1))

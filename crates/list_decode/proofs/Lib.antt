@@ -1,3 +1,3 @@
-pub mod Choices
+pub mod Answers
 pub mod Accepted
 pub mod Exact

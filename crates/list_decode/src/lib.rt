@@ -1,8 +1,8 @@
-// List decoding with a checksum: the checks, the final paths, and the payload of one whose checksum agrees.
+// List decoding with a checksum: the checks, the final paths, and the payload of the best one whose checksum agrees.
 ghost use mathlib.Core.Path.{_≡_};
 ghost use Rattle.answer.specs.Verdict.{verdict, done, settle};
 ghost use Rattle.mask.specs.Mask.{payloadBytes};
-ghost use Rattle.list_decode.specs.Jobs.{listDecodeChecks, finalPaths, Choice, MayChoose, listDecode};
+ghost use Rattle.list_decode.specs.Jobs.{listDecodeChecks, listDecode};
 use answer::Answer;
 
 // The checks of list decoding, in checking order. A mask that is refused takes no byte; one of fewer than 24 phases takes fewer than 3.
@@ -44,8 +44,8 @@ fn list_check(
     Answer::Done
 }
 
-// List decoding: the payload and the penalty of a final path whose checksum agrees. Which one, where several agree, is left open: all
-// that is promised is that it is one of them. The first 8,192 bytes of scratch are left as zeros, also where no checksum agrees.
+// List decoding: the payload and the penalty of the best agreeing path, which is the final path of least penalty whose checksum agrees,
+// and of equal penalties the first. The first 8,192 bytes of scratch are left as zeros, also where no checksum agrees.
 pub fn list_decode(
     inner: u8,
     outer: u8,
@@ -55,7 +55,7 @@ pub fn list_decode(
     scratch: &mut [u8],
     payload: &mut [u8],
 ) -> Answer
-    ensures { λ r. ⌜ ((c : Choice) × MayChoose (finalPaths inner outer list (now (values .entry)) (now (mask .entry))) (now (mask .entry)) c × (listDecode inner outer list (now (values .entry)) (now (mask .entry)) (now (scratch .entry)) (now (payload .entry)) c ≡ (verdict r, now (scratch .exit), now (payload .exit)))) ⌝ }
+    ensures { λ r. ⌜ listDecode inner outer list (now (values .entry)) (now (mask .entry)) (now (scratch .entry)) (now (payload .entry)) ≡ (verdict r, now (scratch .exit), now (payload .exit)) ⌝ }
 {
     let bytes = mask::payload_bytes(mask);
     let answer = list_check(
@@ -79,7 +79,7 @@ pub fn list_decode(
         grid::rows_of(mask),
         scratch,
     );
-    let i = agreeing::first_agreeing(scratch, n, mask, bytes);
+    let i = agreeing::best_agreeing(scratch, n, mask, bytes);
     let out = agreeing::hand_out(scratch, i, n, mask, payload);
     path::clear(scratch, 8192);
     out

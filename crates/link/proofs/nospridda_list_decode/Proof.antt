@@ -1,4 +1,4 @@
--- `link::nospridda_list_decode` meets its contract: it hands out the outcome of the job's answer, with the job's choice. Assumes nothing.
+-- `link::nospridda_list_decode` meets its contract: it hands out the outcome of the job's answer. Assumes nothing.
 use borrow.Author.Needs.{needs}
 use Rattle.link.proofs.Outcomes.{handed-penalty}
 use Rattle.link.proofs.nospridda_list_decode.Statement.{statement}
@@ -17,9 +17,7 @@ same-length-2 : tie.Need-same-length-2
 same-length-2 c = search needs
 
 returns : tie.Need-returns
-returns c =
-    let j = c .before .before .before .before .before .list-decode in
-    (j .ensures .0, j .ensures .1, handed-penalty _ _ _ _ _ (j .ensures .2) (c .penalty-outcome-of .ensures))
+returns c = handed-penalty _ _ _ _ _ (c .before .before .before .before .before .list-decode .ensures) (c .penalty-outcome-of .ensures)
 
 pub nospridda-list-decode-spec : {M : Type 1} → statement M
 nospridda-list-decode-spec = tie.close (tie.spec list-decode-requires penalty-outcome-of-requires same-length same-length-2 returns)

@@ -1,4 +1,4 @@
--- `list_decode::list_decode` meets its contract: refused by a check it leaves the buffers; else it answers a path that agrees, or 13. Assumes nothing.
+-- `list_decode::list_decode` meets its contract: refused by a check it leaves the buffers; else it answers the best agreeing path, or 13. Assumes nothing.
 use mathlib.Core.Path.{_≡_, ap, sym, _∙_}
 use mathlib.Core.Bool.{true}
 use Prim.Native.Nat.{_*_}
@@ -43,8 +43,8 @@ list-run-requires c κs =
     let p = passed (c .before .before) in
     ((p .inner, p .outer, p .some-paths, p .few-paths, omega (arith, p .scratch-room)), (p .count, p .inside))
 
-first-agreeing-requires : tie.Need-first-agreeing-requires
-first-agreeing-requires c κs =
+best-agreeing-requires : tie.Need-best-agreeing-requires
+best-agreeing-requires c κs =
     let z = c .before .before .before .before .before .before in
     let p = passed z in
     let r = c .before .before .before .list-run in
@@ -71,7 +71,7 @@ returns-2 c =
     let a = c .before .before .before .before .before .before .before .before .before .before .before .before .before .before .before .before .before .before .before .before .before .before .before .args in
     let rows = c .before .before .before .before .before .before .before .before .before .before .before .before .before .before .before .rows-of in
     let run = c .before .before .before .before .before .before .before .before .before .before .before .before .before .list-run in
-    list-done (a .inner) (a .outer) (a .list) (a .values .now) (a .mask .now) (a .scratch .now) (a .payload .now) (accepts (c .before .before .before .before .before .before .before .before .before .before .before .before .before .before .before .before)) (rows .result) (run .result) (c .before .before .before .before .before .before .before .before .before .first-agreeing .result) (run .last .1 .1 .1 .1 .1 .0) (rows .ensures) (run .ensures .1) (c .before .before .before .before .before .before .before .before .before .first-agreeing .ensures) (verdict (c .before .before .before .before .before .before .hand-out .result)) _ _ (run .ensures .0 .1) (c .before .before .before .before .before .before .hand-out .ensures) (c .before .before .clear .ensures)
+    list-done (a .inner) (a .outer) (a .list) (a .values .now) (a .mask .now) (a .scratch .now) (a .payload .now) (accepts (c .before .before .before .before .before .before .before .before .before .before .before .before .before .before .before .before)) (rows .result) (run .result) (c .before .before .before .before .before .before .before .before .before .best-agreeing .result) (run .last .1 .1 .1 .1 .1 .0) (rows .ensures) (run .ensures .1) (c .before .before .before .before .before .before .before .before .before .best-agreeing .ensures) (verdict (c .before .before .before .before .before .before .hand-out .result)) _ _ (run .ensures .0 .1) (c .before .before .before .before .before .before .hand-out .ensures) (c .before .before .clear .ensures)
 
 pub list-decode-spec : {M : Type 1} → statement M
 list-decode-spec =
@@ -83,7 +83,7 @@ list-decode-spec =
     returns
     rows-of-requires
     list-run-requires
-    first-agreeing-requires
+    best-agreeing-requires
     hand-out-requires
     clear-requires
     same-length
