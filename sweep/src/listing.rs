@@ -1,10 +1,9 @@
-//! List decode: its answer against all final paths, and every buffer.
-//!
-//! Which of several agreeing paths is answered is open: the payload must be that of one of them, with its penalty.
+//! List decode: its answer against the best agreeing one of all final paths, and every buffer.
 use std::cell::RefCell;
+use std::cmp::Reverse;
 
 use crate::decoding::invertible;
-use crate::frame::{order, packed, placed, taken, unpacked, word, Bits};
+use crate::frame::{order, packed, placed, profile, taken, unpacked, word, Bits};
 use crate::layered::{pay, Block};
 use crate::library::PenaltyOutcome;
 use crate::list::{agrees, checksum, list, list_over_all_words, with_checksum, Path, Tables};
@@ -30,6 +29,7 @@ pub fn sweep(tally: &mut Tally, kernels: &[Kernel]) {
         .collect();
     let pairs = Pairs {
         kernels,
+        profiles: kernels.iter().map(profile).collect(),
         blocks,
         tables: RefCell::default(),
     };
@@ -60,9 +60,10 @@ pub fn sweep(tally: &mut Tally, kernels: &[Kernel]) {
     requests(tally, &pairs, &mut random);
 }
 
-/// The kernels, twice: for the double sum, and for the layers; and memory for these.
+/// The kernels as the double sum takes them, with their profiles, and as the layers do; and memory for the layers' tables.
 struct Pairs<'a> {
     kernels: &'a [Kernel],
+    profiles: Vec<[u32; 16]>,
     blocks: Vec<Block>,
     tables: RefCell<Tables>,
 }
@@ -76,6 +77,12 @@ impl Pairs<'_> {
             &kernels[usize::from(outer)],
             symbols,
         )
+    }
+
+    /// The product of the profile numbers of a phase.
+    fn distance(&self, (inner, outer): (u8, u8), phase: usize) -> u32 {
+        self.profiles[usize::from(outer)][phase / 16]
+            * self.profiles[usize::from(inner)][phase % 16]
     }
 }
 
@@ -142,22 +149,31 @@ fn number(random: &mut Random, low: usize, high: usize) -> usize {
     random.wide(low as i32, high as i32) as usize
 }
 
+/// The marks of some phases.
+fn marks_at(phases: &[usize]) -> Bits {
+    std::array::from_fn(|i| phases.contains(&i))
+}
+
+/// Any k phases below an end.
+fn marks_below(random: &mut Random, k: usize, end: usize) -> Bits {
+    let mut marks = [false; 256];
+    while marks.iter().filter(|&&marked| marked).count() < k {
+        marks[number(random, 0, end - 1)] = true;
+    }
+    marks
+}
+
 /// A mask of k phases: the first of the order, any, or any below some phase, so that those after it are unmarked.
 fn mask(random: &mut Random, order: &[usize], k: usize) -> Vec<u8> {
-    let mut marks = [false; 256];
     if random.once_in(2) {
-        order[..k].iter().for_each(|&i| marks[i] = true);
-    } else {
-        let end = if random.once_in(2) {
-            256
-        } else {
-            number(random, k, 256)
-        };
-        while marks.iter().filter(|&&marked| marked).count() < k {
-            marks[number(random, 0, end - 1)] = true;
-        }
+        return packed(&marks_at(&order[..k]));
     }
-    packed(&marks)
+    let end = if random.once_in(2) {
+        256
+    } else {
+        number(random, k, 256)
+    };
+    packed(&marks_below(random, k, end))
 }
 
 /// The kinds of values, and those with many equal penalties.
@@ -199,12 +215,32 @@ struct Request {
     payload: Vec<u8>,
 }
 
-/// What was found of a request that passes the checks.
+/// The final paths of a request that passes the checks, in order.
 struct Found {
-    /// How many final paths there are.
-    paths: usize,
-    /// The places of those that agree.
+    /// Payload and penalty of each.
+    answers: Vec<(Vec<u8>, i32)>,
+    /// The places of those whose checksum agrees.
     agreeing: Vec<usize>,
+}
+
+impl Found {
+    fn new(answers: Vec<(Vec<u8>, i32)>) -> Found {
+        let agreeing = (0..answers.len()).filter(|&i| agrees(&answers[i].0));
+        Found {
+            agreeing: agreeing.collect(),
+            answers,
+        }
+    }
+
+    fn penalty(&self, i: usize) -> i32 {
+        self.answers[i].1
+    }
+
+    /// The place of the path to answer: the first agreeing one by least penalty, equal penalties by the place in the list.
+    fn best(&self) -> Option<usize> {
+        let agreeing = self.agreeing.iter().copied();
+        agreeing.min_by_key(|&i| (self.penalty(i), i))
+    }
 }
 
 impl Request {
@@ -261,16 +297,18 @@ impl Request {
     }
 
     /// The final paths of a request that passes the checks.
-    fn paths(&self, pairs: &Pairs) -> Vec<Path> {
+    fn found(&self, pairs: &Pairs) -> Found {
         let values: Vec<i32> = self.values.iter().map(|&y| i32::from(y)).collect();
-        list(
+        let paths = list(
             &mut pairs.tables.borrow_mut(),
             &pairs.blocks[usize::from(self.pair.0)],
             &pairs.blocks[usize::from(self.pair.1)],
             &values,
             &unpacked(&self.mask),
             self.list,
-        )
+        );
+        let answer = |path: Path| (self.payload_of(&path), path.penalty);
+        Found::new(paths.into_iter().map(answer).collect())
     }
 
     /// The payload of a path.
@@ -325,60 +363,60 @@ impl Request {
         ));
     }
 
-    /// Outcome and buffers. What was found, where the request passes the checks.
-    fn compare(&self, tally: &mut Tally, what: &str, pairs: &Pairs) -> Option<Found> {
-        let (got, scratch, payload) = self.call();
-        if let Some(want) = self.refusal() {
-            if got != want || scratch != self.scratch || payload != self.payload {
-                let kept = [scratch == self.scratch, payload == self.payload];
-                self.wrong(
-                    tally,
-                    what,
-                    format_args!(
-                        "wanted {want:?}, got {got:?}; scratch and payload kept: {kept:?}"
-                    ),
-                );
-            }
-            return None;
-        }
-        let paths = self.paths(pairs);
-        let bytes = self.marked() / 8;
-        let answers: Vec<(Vec<u8>, i32)> = paths
-            .iter()
-            .map(|path| (self.payload_of(path), path.penalty))
-            .collect();
-        let agreeing: Vec<usize> = (0..paths.len())
-            .filter(|&i| agrees(&answers[i].0))
-            .collect();
-        // The number and the first bytes of the payload; 13 leaves them.
-        let answered = (payload[..bytes].to_vec(), got.penalty as i32);
-        let right = if agreeing.is_empty() {
-            (got.number, got.penalty) == (13, 0) && payload == self.payload
-        } else {
-            got.number == 0
-                && agreeing.iter().any(|&i| answers[i] == answered)
-                && self.paid(pairs, &answered.0) == answered.1
+    /// The outcome and both buffers that the paper gives a request that is refused before all decoding, or has these paths.
+    fn settled(&self, found: Option<&Found>) -> (PenaltyOutcome, Vec<u8>, Vec<u8>) {
+        let (mut scratch, mut payload) = (self.scratch.clone(), self.payload.clone());
+        let Some(found) = found else {
+            return (self.refusal().unwrap(), scratch, payload);
         };
-        let kept = payload[bytes..] == self.payload[bytes..]
-            && scratch[SCRATCH..] == self.scratch[SCRATCH..]
-            && scratch[..SCRATCH] == [0; SCRATCH];
-        if !right || !kept || got.place != 0 {
+        let mut outcome = PenaltyOutcome {
+            number: 13,
+            place: 0,
+            penalty: 0,
+        };
+        if let Some(i) = found.best() {
+            let (bytes, penalty) = &found.answers[i];
+            (outcome.number, outcome.penalty) = (0, *penalty as u32);
+            payload[..bytes.len()].copy_from_slice(bytes);
+        }
+        scratch[..SCRATCH].fill(0);
+        (outcome, scratch, payload)
+    }
+
+    /// Outcome and buffers. The final paths, where the request passes the checks.
+    fn compare(&self, tally: &mut Tally, what: &str, pairs: &Pairs) -> Option<Found> {
+        let found = match self.refusal() {
+            Some(_) => None,
+            None => Some(self.found(pairs)),
+        };
+        let (want, got) = (self.settled(found.as_ref()), self.call());
+        if got != want {
+            let bytes = self.payload.len().min(self.marked() / 8);
+            let kept = [got.1 == want.1, got.2[bytes..] == want.2[bytes..]];
             self.wrong(
                 tally,
                 what,
                 format_args!(
-                    "got {got:?} and {answered:02x?}, buffers right: {kept}; final paths {answers:02x?}, \
-                     agreeing {agreeing:?}"
+                    "wanted {:?} and {:02x?}, got {:?} and {:02x?}; scratch and what lies past the payload right: {kept:?}; \
+                     final paths: {:02x?}",
+                    want.0,
+                    &want.2[..bytes],
+                    got.0,
+                    &got.2[..bytes],
+                    found.as_ref().map(|found| &found.answers)
                 ),
             );
         }
-        if self.list == 1 {
-            self.beside_frame_decode(tally, what, got, &answered.0);
+        let found = found?;
+        let answered = &got.2[..self.marked() / 8];
+        if got.0.number == 0 && self.paid(pairs, answered) != got.0.penalty as i32 {
+            let why = format_args!("{:?} is not what the word of {answered:02x?} pays", got.0);
+            self.wrong(tally, what, why);
         }
-        Some(Found {
-            paths: paths.len(),
-            agreeing,
-        })
+        if self.list == 1 {
+            self.beside_frame_decode(tally, what, got.0, answered);
+        }
+        Some(found)
     }
 
     /// With one path it is frame decode's payload and last penalty, where the checksum agrees.
@@ -421,27 +459,48 @@ impl Request {
 /// What was met among the requests that pass the checks.
 #[derive(Default)]
 struct Met {
-    /// By the place of the first path that agrees.
+    /// By the place of the path that is answered.
     places: [u64; 8],
+    /// None agrees.
     refused: u64,
-    /// With several that agree.
+    /// A path that does not agree has a lower penalty than the one that is answered.
+    lower: u64,
+    /// Several agree;
     several: u64,
+    /// of them the best is not the first,
+    behind: u64,
+    /// and two or more have the least penalty.
+    equal: u64,
 }
 
 impl Met {
     fn add(&mut self, found: &Found) {
-        match found.agreeing[..] {
-            [] => self.refused += 1,
-            [first, ..] => self.places[first] += 1,
-        }
+        let Some(best) = found.best() else {
+            self.refused += 1;
+            return;
+        };
+        let least = found.penalty(best);
+        let is_least = |&&i: &&usize| found.penalty(i) == least;
+        let equal = found.agreeing.iter().filter(is_least);
+        self.places[best] += 1;
+        self.lower += u64::from(found.answers.iter().any(|answer| answer.1 < least));
         self.several += u64::from(found.agreeing.len() > 1);
+        self.behind += u64::from(best != found.agreeing[0]);
+        self.equal += u64::from(equal.count() > 1);
     }
 
     fn report(&self, tally: &mut Tally) {
         tally.line(
             format_args!(
-                "of them, by the place of the first path that agrees: {:?}; several agree: {}; none: {}",
-                self.places, self.several, self.refused
+                "of them, by the place of the path that is answered: {:?}; none agrees: {}; one that does not agree pays less: {}",
+                self.places, self.refused, self.lower
+            ),
+            0,
+        );
+        tally.line(
+            format_args!(
+                "several agree: {}, the best is not the first of them: {}, several have the least penalty: {}",
+                self.several, self.behind, self.equal
             ),
             0,
         );
@@ -474,19 +533,23 @@ fn frames(
             let values = values(random, kinds[(turn + 3 * round) % kinds.len()], &word);
             let mut request = Request::new(random, pair, 1 + turn / 9, &values, &mask);
             if !random.once_in(3) {
-                let paths = request.paths(pairs);
-                let from = request.payload_of(&paths[number(random, 0, paths.len() - 1)]);
+                let answers = request.found(pairs).answers;
+                let from = &answers[number(random, 0, answers.len() - 1)].0;
                 let to = match random.between(0, 3) {
                     0 => with_checksum(&bytes(random, k / 8)),
-                    _ => with_checksum(&from),
+                    _ => with_checksum(from),
                 };
                 let other: Vec<u8> = from.iter().zip(&to).map(|(a, b)| a ^ b).collect();
                 request.turn(pairs, &other);
             }
             let found = request.compare(tally, name, pairs).unwrap();
             tally.expect(
-                found.paths == request.list,
-                format_args!("a list of {} has {} paths", request.list, found.paths),
+                found.answers.len() == request.list,
+                format_args!(
+                    "a list of {} has {} paths",
+                    request.list,
+                    found.answers.len()
+                ),
             );
             met.add(&found);
             cases += 1;
@@ -500,48 +563,80 @@ fn frames(
     );
 }
 
-/// Two payloads with a right checksum whose words the values hardly tell apart: they differ by the polynomial.
+/// Two payloads of k bits with a right checksum: they differ by the polynomial.
+fn two_payloads(random: &mut Random, k: usize) -> [Vec<u8>; 2] {
+    let first = with_checksum(&bytes(random, k / 8));
+    let shift = number(random, 0, k - 17);
+    let mut polynomial = vec![false; k];
+    for i in [0, 4, 11, 16] {
+        polynomial[shift + i] = true;
+    }
+    let both = first.iter().zip(packed(&polynomial));
+    let second: Vec<u8> = both.map(|(a, b)| a ^ b).collect();
+    assert!(agrees(&first) && agrees(&second));
+    [first, second]
+}
+
+/// How the values tell two payloads apart: by this much at most for the first, where their words differ; and whether that
+/// word has 1 at an unmarked phase after all marked ones, so that the first leads, or is level, only until then.
+const TOLD: [(i16, bool); 4] = [(0, false), (0, true), (1, true), (1, false)];
+
+/// A frame of two near payloads that both agree, for a list of so many. The k marked phases are those of the largest distances
+/// below some end.
+fn near(
+    random: &mut Random,
+    pairs: &Pairs,
+    pair: (u8, u8),
+    list: usize,
+    k: usize,
+    (most, late): (i16, bool),
+) -> Request {
+    let end = number(random, 160, 255);
+    let mut phases: Vec<usize> = (0..end).collect();
+    phases.sort_by_key(|&i| Reverse(pairs.distance(pair, i)));
+    let marks = marks_at(&phases[..k]);
+    let mut symbols = two_payloads(random, k).map(|payload| placed(&marks, &payload));
+    if late {
+        let phase = (end..256).min_by_key(|&i| pairs.distance(pair, i));
+        symbols[0][phase.unwrap()] = true;
+    }
+    let [first, second] = symbols.map(|symbols| pairs.word(pair, &symbols));
+    let values = first.iter().zip(second).map(|(&one, other)| {
+        let size = if one == other {
+            90
+        } else {
+            random.between(0, most)
+        };
+        (if one { -size } else { size }) as i8
+    });
+    let values: Vec<i8> = values.collect();
+    Request::new(random, pair, list, &values, &packed(&marks))
+}
+
+/// Two payloads with a right checksum whose words the values hardly tell apart, at all pairs with every length of the list.
 fn several(tally: &mut Tally, pairs: &Pairs, random: &mut Random) {
-    let order = order(&pairs.kernels[2]);
     let mut met = Met::default();
-    let turns = 36;
+    let turns = 1008;
     for turn in 0..turns {
         let pair = ((turn % 3) as u8, (turn / 3 % 3) as u8);
-        let k = SIZES[number(random, 0, 2)];
-        let mut marks = [false; 256];
-        order[..k].iter().for_each(|&i| marks[i] = true);
-        let first = with_checksum(&bytes(random, k / 8));
-        let shift = number(random, 0, k - 17);
-        let mut polynomial = vec![false; k];
-        for i in [0, 4, 11, 16] {
-            polynomial[shift + i] = true;
-        }
-        let second: Vec<u8> = first
-            .iter()
-            .zip(packed(&polynomial))
-            .map(|(a, b)| a ^ b)
-            .collect();
-        tally.expect(
-            agrees(&first) && agrees(&second),
-            format_args!("{first:02x?} and {second:02x?} do not both agree"),
+        let k = [24, 32, 64, 128][number(random, 0, 3)];
+        let request = near(
+            random,
+            pairs,
+            pair,
+            1 + turn / 9 % 8,
+            k,
+            TOLD[turn / 72 % 4],
         );
-        let words = [first, second].map(|payload| pairs.word(pair, &placed(&marks, &payload)));
-        let values: Vec<i8> = (0..256)
-            .map(|i| match words.each_ref().map(|word| word[i]) {
-                [false, false] => 90,
-                [true, true] => -90,
-                _ => random.between(-1, 1) as i8,
-            })
-            .collect();
-        let list = number(random, 2, 8);
-        let request = Request::new(random, pair, list, &values, &packed(&marks));
         met.add(&request.compare(tally, "several agree", pairs).unwrap());
     }
     tally.group("frames with two near payloads that agree", turns as u64);
     met.report(tally);
     tally.expect(
-        met.several > 0,
-        format_args!("no list had several paths that agree"),
+        [met.refused, met.lower, met.several, met.behind, met.equal]
+            .iter()
+            .all(|&count| count > 0),
+        format_args!("several agree: not every case was met"),
     );
 }
 
@@ -615,10 +710,7 @@ fn lists(tally: &mut Tally, pairs: &Pairs, random: &mut Random) {
 fn sizes(tally: &mut Tally, pairs: &Pairs, random: &mut Random) {
     let mut cases = 0;
     for k in 0..=256 {
-        let mut marks = [false; 256];
-        while marks.iter().filter(|&&marked| marked).count() < k {
-            marks[number(random, 0, 255)] = true;
-        }
+        let marks = marks_below(random, k, 256);
         let mut request = request(random);
         request.mask = packed(&marks);
         request.payload = bytes(random, k / 8);
