@@ -215,6 +215,9 @@ struct Request {
     payload: Vec<u8>,
 }
 
+/// An outcome, and what scratch and payload hold then.
+type Answered = (PenaltyOutcome, Vec<u8>, Vec<u8>);
+
 /// The final paths of a request that passes the checks, in order.
 struct Found {
     /// Payload and penalty of each.
@@ -337,7 +340,7 @@ impl Request {
     }
 
     /// The outcome and both buffers after a call.
-    fn call(&self) -> (PenaltyOutcome, Vec<u8>, Vec<u8>) {
+    fn call(&self) -> Answered {
         let (mut scratch, mut payload) = (self.scratch.clone(), self.payload.clone());
         let outcome = list_decode(
             self.pair.0,
@@ -364,7 +367,7 @@ impl Request {
     }
 
     /// The outcome and both buffers that the paper gives a request that is refused before all decoding, or has these paths.
-    fn settled(&self, found: Option<&Found>) -> (PenaltyOutcome, Vec<u8>, Vec<u8>) {
+    fn settled(&self, found: Option<&Found>) -> Answered {
         let (mut scratch, mut payload) = (self.scratch.clone(), self.payload.clone());
         let Some(found) = found else {
             return (self.refusal().unwrap(), scratch, payload);
@@ -383,6 +386,32 @@ impl Request {
         (outcome, scratch, payload)
     }
 
+    /// What was wanted and what came instead.
+    fn differs(
+        &self,
+        tally: &mut Tally,
+        what: &str,
+        found: Option<&Found>,
+        want: &Answered,
+        got: &Answered,
+    ) {
+        let bytes = self.payload.len().min(self.marked() / 8);
+        let kept = [got.1 == want.1, got.2[bytes..] == want.2[bytes..]];
+        self.wrong(
+            tally,
+            what,
+            format_args!(
+                "wanted {:?} and {:02x?}, got {:?} and {:02x?}; scratch and what lies past the payload right: {kept:?}; \
+                 final paths: {:02x?}",
+                want.0,
+                &want.2[..bytes],
+                got.0,
+                &got.2[..bytes],
+                found.map(|found| &found.answers)
+            ),
+        );
+    }
+
     /// Outcome and buffers. The final paths, where the request passes the checks.
     fn compare(&self, tally: &mut Tally, what: &str, pairs: &Pairs) -> Option<Found> {
         let found = match self.refusal() {
@@ -391,21 +420,7 @@ impl Request {
         };
         let (want, got) = (self.settled(found.as_ref()), self.call());
         if got != want {
-            let bytes = self.payload.len().min(self.marked() / 8);
-            let kept = [got.1 == want.1, got.2[bytes..] == want.2[bytes..]];
-            self.wrong(
-                tally,
-                what,
-                format_args!(
-                    "wanted {:?} and {:02x?}, got {:?} and {:02x?}; scratch and what lies past the payload right: {kept:?}; \
-                     final paths: {:02x?}",
-                    want.0,
-                    &want.2[..bytes],
-                    got.0,
-                    &got.2[..bytes],
-                    found.as_ref().map(|found| &found.answers)
-                ),
-            );
+            self.differs(tally, what, found.as_ref(), &want, &got);
         }
         let found = found?;
         let answered = &got.2[..self.marked() / 8];

@@ -6,10 +6,9 @@ use Prim.Native.Nat.{ℕ, _+_, _*_, _/_, _≤_, _<_}
 use native.Mathlib.Decide.{decLt}
 use native.Mathlib.Omega.{arith}
 use borrow.Author.Tests.{eq-eqb, ne-eqb, ltb-true, ltb-false}
-use lib.Dec.{eqb, ltb}
+use lib.Dec.{ltb}
 use lib.ListN.{length, take, drop}
 use lib.Seq.{take-at}
-use Rattle.base.proofs.Bool.{or-eq-false}
 use Rattle.bits.specs.Packed.{unpack}
 use Rattle.bits.proofs.Packed.{length-pack}
 use Rattle.payload.specs.Payload.{gather}
@@ -32,16 +31,27 @@ front-count mask u old new bytes e f =
     let k : marked mask / 8 ≡ bytes = omega arith in
     ap length (front mask u old new bytes e f) ∙ length-pack (marked mask / 8) (gather (unpack mask) u) ∙ k
 
+module _ (scratch : List ℕ) (n r i : ℕ) where
+  -- Any penalty is lower where there is no best record yet,
+  pub lower-none : r ≡ n → isLower scratch n r i ≡ true
+  lower-none e = ap (λ (b : Bool). b || ltb (recordPenalty scratch i) (recordPenalty scratch r)) (eq-eqb r n e)
+
+  -- and where there is one, that below its own.
+  pub lower-some : (r ≡ n → ⊥) → isLower scratch n r i ≡ ltb (recordPenalty scratch i) (recordPenalty scratch r)
+  lower-some e = ap (λ (b : Bool). b || ltb (recordPenalty scratch i) (recordPenalty scratch r)) (ne-eqb r n e)
+
 module _ (mask scratch : List ℕ) (n i r : ℕ) (h : BestRecord mask scratch n i r) where
+  -- Whether record i is lower, where there is a best one before it.
+  below-best : r < n → isLower scratch n r i ≡ ltb (recordPenalty scratch i) (recordPenalty scratch r)
+  below-best l = lower-some scratch n r i (λ q. omega (arith, q, l))
+
   -- One record more is passed over where its penalty is not lower,
   pub not-lower : isLower scratch n r i ≡ false → BestRecord mask scratch n (i + 1) r
   not-lower e =
-      let f = or-eq-false (eqb r n) (ltb (recordPenalty scratch i) (recordPenalty scratch r)) e in
-      let k = ltb-false (recordPenalty scratch i) (recordPenalty scratch r) (f .1) in
       record {
         within = h .within;
-        found = λ l. best-stays (recordAgrees mask scratch) (recordPenalty scratch) i r (h .found l) (λ _. k);
-        none = λ q. absurd (false≢true (sym (f .0) ∙ eq-eqb r n (omega (arith, q, h .within))));
+        found = λ l. best-stays (recordAgrees mask scratch) (recordPenalty scratch) i r (h .found l) (λ _. ltb-false (recordPenalty scratch i) (recordPenalty scratch r) (sym (below-best l) ∙ e));
+        none = λ q. absurd (false≢true (sym e ∙ lower-none scratch n r i (omega (arith, q, h .within))));
       }
 
   -- or its checksum does not agree;
@@ -67,7 +77,5 @@ module _ (mask scratch : List ℕ) (n i r : ℕ) (h : BestRecord mask scratch n 
       }
     where
       below : Dec (r < n) → (j : ℕ) → j < i → recordAgrees mask scratch j ≡ true → recordPenalty scratch i < recordPenalty scratch j
-      below (yes k) j l t =
-          let f = sym (ap (λ (b : Bool). b || ltb (recordPenalty scratch i) (recordPenalty scratch r)) (ne-eqb r n (λ q. omega (arith, q, k)))) ∙ e in
-          omega (arith, ltb-true (recordPenalty scratch i) (recordPenalty scratch r) f, (h .found k) .least j l t)
+      below (yes k) j l t = omega (arith, ltb-true (recordPenalty scratch i) (recordPenalty scratch r) (sym (below-best k) ∙ e), (h .found k) .least j l t)
       below (no k) j l t = absurd (false≢true (sym (h .none (omega (arith, k)) j l) ∙ t))
