@@ -2,15 +2,15 @@
 use mathlib.Core.Path.{_≡_, refl, sym, ap, ap₂, _∙_, fun-ext}
 use mathlib.Core.Bool.{Bool, false, _&&_, and-assoc}
 use mathlib.Core.List.{List, _++_}
-use Prim.Native.Nat.{ℕ, zero, suc, _+_, _*_, _/_, _%_, _≤_, _<_}
-use native.Mathlib.Nat.{mul-comm, mod-lt, div-lt-iff-lt-mul}
+use Prim.Native.Nat.{ℕ, _+_, _*_, _/_, _%_, _≤_, _<_}
+use native.Mathlib.Nat.{mod-lt, div-lt-iff-lt-mul}
 use lib.ListN.{length, take, drop}
 use lib.Seq.{getD-take, getD-drop}
 use Rattle.base.specs.Bit.{bit, parity}
 use Rattle.base.proofs.Bool.{parity-cong, parity-and, parity-blocks}
 use Rattle.polar.specs.Code.{Code, Costs, least, score, Onto, UndoneBy}
 use Rattle.polar.specs.Kernel.{matrix, Kernel, code, Invertible, inverted}
-use Rattle.polar.specs.Frame.{frame, layers}
+use Rattle.polar.specs.Frame.{frame}
 use Rattle.polar.specs.Stages.{rows, staged, pairs, soft}
 use Rattle.polar.proofs.Minima.{quot, rest}
 use Rattle.polar.proofs.Layer.{layer, pos-right}
@@ -57,17 +57,6 @@ pub formula : (A B : Kernel) (u : List Bool) (j t : ℕ) → t < B .dim
 formula A B u j t l =
     ap₂ (λ q d. parity (B .dim) (λ r. parity (A .dim) (λ s. bit u (A .dim * r + s) && A .entry s q && B .entry r d)))
     (quot (B .dim) j t l) (rest (B .dim) j t l)
-
--- A frame of two layers is the frame of two of any number.
-abbrev pub pair : Kernel → Kernel → ℕ → Kernel
-pair A B zero = A
-pair A B (suc i) = B
-
-pub frame-layers : (A B : Kernel) → frame A B ≡ layers (pair A B) 1
-frame-layers A B =
-    frame-staged A B
-    ∙ same-code (staged (code A) (code B)) (layers (pair A B) 1) refl (mul-comm (A .dim) (B .dim))
-    (stages-matrix (A .dim) (A .dim) (B .dim) (B .dim) (A .entry) (B .entry))
 
 -- The frame of the inverses with the layers exchanged undoes a frame.
 pub frame-undo : (A B : Kernel) (a : Invertible A) (b : Invertible B) → UndoneBy (frame A B) (frame (inverted B b) (inverted A a))

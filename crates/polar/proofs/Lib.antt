@@ -6,7 +6,9 @@ pub mod Follow
 pub mod Undo
 pub mod Matrix
 pub mod Frame
+pub mod Alike
 pub mod Layers
+pub mod Encoding
 pub mod Relation
 pub mod Pigeon
 pub mod Window

@@ -3,6 +3,7 @@ pub mod Follow
 pub mod Kernel
 pub mod Frame
 pub mod Stages
+pub mod Encoding
 pub mod Relation
 pub mod Window
 pub mod Fold
