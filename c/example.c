@@ -15,11 +15,13 @@
 #include "nospridda.h"
 
 enum {
-    KERNEL = 2,        /* inner and outer kernel: the pair (2, 2) */
     PAYLOAD_BYTES = 8,
     LOST = 40,         /* a mark that the radio lost */
     FADED = 99         /* and another one */
 };
+
+/* Two layers, kernel 2 in both; that of the third one is not looked at. */
+static const struct nospridda_plan PLAN = {2, {2, 2, 0}};
 
 /* The scale, which a receiver measures for each frame: here amplitude 1 gives the value 32. */
 static const float SCALE = 32.0f;
@@ -87,7 +89,7 @@ static int noise(uint32_t *state)
 /* The sender: a payload to the word that is sent. */
 static void transmit(const uint8_t *mask, const uint8_t *payload, uint8_t *word)
 {
-    accepted(nospridda_frame_encode(KERNEL, KERNEL, mask, NOSPRIDDA_FRAME_BYTES, payload, PAYLOAD_BYTES,
+    accepted(nospridda_frame_encode(PLAN, mask, NOSPRIDDA_FRAME_BYTES, payload, PAYLOAD_BYTES,
                                     word, NOSPRIDDA_FRAME_BYTES),
              "frame encode");
     print_bytes("payload sent:    ", payload, PAYLOAD_BYTES);
@@ -111,16 +113,16 @@ static void channel(const uint8_t *word, float *amplitudes)
 
 /* The receiver: marks to values, and values to the payload. */
 static struct nospridda_outcome receive(float scale, const float *amplitudes, const uint8_t *blanked,
-                                        const uint8_t *mask, uint16_t *penalties,
+                                        const uint8_t *mask, uint32_t *penalties,
                                         uint8_t *payload, size_t payload_length)
 {
     int8_t values[NOSPRIDDA_FRAME_BITS];
-    int16_t scores[NOSPRIDDA_FRAME_BITS];
+    int32_t scores[NOSPRIDDA_FRAME_BITS];
     struct nospridda_outcome outcome = nospridda_values_from_marks(
         scale, amplitudes, NOSPRIDDA_FRAME_BITS, blanked, NOSPRIDDA_MARK_BYTES, values, NOSPRIDDA_FRAME_BITS);
 
     if (outcome.number == NOSPRIDDA_ACCEPTED) {
-        outcome = nospridda_frame_decode(KERNEL, KERNEL, values, NOSPRIDDA_FRAME_BITS, mask, NOSPRIDDA_FRAME_BYTES,
+        outcome = nospridda_frame_decode(PLAN, values, NOSPRIDDA_FRAME_BITS, mask, NOSPRIDDA_FRAME_BYTES,
                                          scores, NOSPRIDDA_FRAME_BITS, penalties, NOSPRIDDA_FRAME_BITS,
                                          payload, payload_length);
     }
@@ -130,7 +132,7 @@ static struct nospridda_outcome receive(float scale, const float *amplitudes, co
 /* An amplitude that is not finite is refused, and nothing is written. */
 static void refuse_infinity(const float *amplitudes, const uint8_t *blanked, const uint8_t *mask)
 {
-    uint16_t penalties[NOSPRIDDA_FRAME_BITS] = {0};
+    uint32_t penalties[NOSPRIDDA_FRAME_BITS] = {0};
     uint8_t payload[PAYLOAD_BYTES] = {0};
     struct nospridda_outcome outcome = receive(SCALE, amplitudes, blanked, mask, penalties, payload, sizeof payload);
     size_t i;
@@ -176,12 +178,12 @@ int main(void)
     uint8_t blanked[NOSPRIDDA_MARK_BYTES] = {0};
     uint8_t signs[NOSPRIDDA_FRAME_BYTES] = {0};
     uint8_t decoded[PAYLOAD_BYTES] = {0};
-    uint16_t penalties[NOSPRIDDA_FRAME_BITS];
+    uint32_t penalties[NOSPRIDDA_FRAME_BITS];
     unsigned paid;
 
     /* Which of the 256 phases carry the payload. */
     accepted(nospridda_information_mask(PAYLOAD_BYTES, mask, sizeof mask), "information mask");
-    expect(nospridda_part_length(mask, sizeof mask, NOSPRIDDA_FRAME_BYTES) == PAYLOAD_BYTES,
+    expect(nospridda_part_length(PLAN, mask, sizeof mask, NOSPRIDDA_FRAME_BYTES) == PAYLOAD_BYTES,
            "the mask takes this payload");
     transmit(mask, sent, word);
     channel(word, amplitudes);
@@ -193,7 +195,7 @@ int main(void)
     paid = wrong_signs(amplitudes, blanked, word, signs);
 
     /* The signs alone are no word of this mask, so undoing them is refused. */
-    refused(nospridda_frame_undo(KERNEL, KERNEL, mask, sizeof mask, signs, sizeof signs, decoded, sizeof decoded),
+    refused(nospridda_frame_undo(PLAN, mask, sizeof mask, signs, sizeof signs, decoded, sizeof decoded),
             "frame undo of the signs", NOSPRIDDA_FROZEN_ONE);
 
     /* The decoder looks at the sizes too. */

@@ -10,8 +10,8 @@
 
 #include "nospridda.h"
 
-#if NOSPRIDDA_VERSION != 4
-#error "c/header.c is for version 4 of the header"
+#if NOSPRIDDA_VERSION != 5
+#error "c/header.c is for version 5 of the header"
 #endif
 
 /* The header's sizes under shorter names. */
@@ -19,6 +19,9 @@ enum {
     SIXTEEN = NOSPRIDDA_KERNEL_BITS,
     SYMBOLS = NOSPRIDDA_FRAME_BITS,
     WORD_BYTES = NOSPRIDDA_FRAME_BYTES,
+    ONE_BYTES = NOSPRIDDA_BYTES(1),
+    MOST_SYMBOLS = NOSPRIDDA_SYMBOLS(NOSPRIDDA_LAYERS),
+    MOST_BYTES = NOSPRIDDA_BYTES(NOSPRIDDA_LAYERS),
     MARKS = NOSPRIDDA_FRAME_MARKS,
     MARK_BYTES = NOSPRIDDA_MARK_BYTES,
     LIST_BYTES = NOSPRIDDA_LIST_BYTES,
@@ -74,6 +77,24 @@ static int word_bit(uint16_t word, size_t i)
 static void set_bit(uint8_t *bytes, size_t i)
 {
     bytes[i / 8] |= (uint8_t)(0x80 >> (i % 8));
+}
+
+/* The plan of these layers, the innermost first; a frame of fewer takes the first ones. */
+static struct nospridda_plan plan_of(uint8_t layers, uint8_t first, uint8_t second, uint8_t third)
+{
+    struct nospridda_plan plan;
+
+    plan.layers = layers;
+    plan.kernels[0] = first;
+    plan.kernels[1] = second;
+    plan.kernels[2] = third;
+    return plan;
+}
+
+/* A plan of two layers; what stands for the third one is no kernel, and not looked at. */
+static struct nospridda_plan pair(uint8_t inner, uint8_t outer)
+{
+    return plan_of(2, inner, outer, 255);
 }
 
 static void kernels(void)
@@ -163,8 +184,11 @@ static void masks(uint8_t *mask)
     outcome(nospridda_information_mask(1, mask, WORD_BYTES), NOSPRIDDA_ACCEPTED, 0, "information mask");
     expect(memcmp(mask, marked, sizeof marked) == 0, "the information mask of one byte");
     outcome(nospridda_information_mask(33, mask, WORD_BYTES), NOSPRIDDA_WRONG_SIZE, 0, "information mask, 33 bytes");
-    expect(nospridda_part_length(mask, WORD_BYTES, WORD_BYTES) == 1, "part length");
-    expect(nospridda_part_length(mask, WORD_BYTES, 31) == 0, "part length of a buffer of 31 bytes");
+    expect(nospridda_part_length(pair(2, 2), mask, WORD_BYTES, WORD_BYTES) == 1, "part length");
+    expect(nospridda_part_length(pair(2, 2), mask, WORD_BYTES, 31) == 0, "part length of a buffer of 31 bytes");
+    expect(nospridda_part_length(pair(2, 3), mask, WORD_BYTES, WORD_BYTES) == 0, "part length, kernel 3");
+    expect(nospridda_part_length(plan_of(3, 2, 2, 2), mask, WORD_BYTES, WORD_BYTES) == 0, "part length, three layers");
+    expect(nospridda_part_length(plan_of(0, 2, 2, 2), mask, WORD_BYTES, WORD_BYTES) == 0, "part length, no layer");
 }
 
 /* Inner kernel 1, outer kernel 2, and a payload whose only 1 is the symbol of
@@ -190,34 +214,34 @@ static void encode_and_undo(const uint8_t *mask)
             set_bit(expected, i);
         }
     }
-    outcome(nospridda_frame_encode(1, 2, mask, WORD_BYTES, &sent, 1, word, sizeof word), NOSPRIDDA_ACCEPTED, 0,
+    outcome(nospridda_frame_encode(pair(1, 2), mask, WORD_BYTES, &sent, 1, word, sizeof word), NOSPRIDDA_ACCEPTED, 0,
             "frame encode");
     expect(memcmp(word, expected, sizeof word) == 0, "the word of a frame");
-    outcome(nospridda_frame_encode(1, 2, mask, WORD_BYTES, &sent, 0, word, sizeof word), NOSPRIDDA_WRONG_PAYLOAD, 0,
+    outcome(nospridda_frame_encode(pair(1, 2), mask, WORD_BYTES, &sent, 0, word, sizeof word), NOSPRIDDA_WRONG_PAYLOAD, 0,
             "frame encode, no payload");
 
-    outcome(nospridda_frame_undo(1, 2, mask, WORD_BYTES, word, sizeof word, &payload, 1), NOSPRIDDA_ACCEPTED, 0,
+    outcome(nospridda_frame_undo(pair(1, 2), mask, WORD_BYTES, word, sizeof word, &payload, 1), NOSPRIDDA_ACCEPTED, 0,
             "frame undo");
     expect(payload == sent, "the payload of a word");
     /* Symbol 1, which is not marked: bits 0 and 16. */
     word[0] ^= 0x80;
     word[2] ^= 0x80;
-    outcome(nospridda_frame_undo(1, 2, mask, WORD_BYTES, word, sizeof word, &payload, 1), NOSPRIDDA_FROZEN_ONE, 1,
+    outcome(nospridda_frame_undo(pair(1, 2), mask, WORD_BYTES, word, sizeof word, &payload, 1), NOSPRIDDA_FROZEN_ONE, 1,
             "frame undo, symbol 1 set");
 }
 
 static void decode(const uint8_t *mask)
 {
     int8_t values[SYMBOLS];
-    int16_t scores[SYMBOLS] = {0};
-    uint16_t penalties[SYMBOLS] = {0};
+    int32_t scores[SYMBOLS] = {0};
+    uint32_t penalties[SYMBOLS] = {0};
     uint8_t payload = 0;
     size_t i;
 
     for (i = 0; i < SYMBOLS; i++) {
         values[i] = sent_bit(i) ? -127 : 127;
     }
-    outcome(nospridda_frame_decode(1, 2, values, SYMBOLS, mask, WORD_BYTES, scores, SYMBOLS, penalties, SYMBOLS,
+    outcome(nospridda_frame_decode(pair(1, 2), values, SYMBOLS, mask, WORD_BYTES, scores, SYMBOLS, penalties, SYMBOLS,
                                    &payload, 1),
             NOSPRIDDA_ACCEPTED, 0, "frame decode");
     expect(payload == sent, "the decoded payload");
@@ -226,7 +250,7 @@ static void decode(const uint8_t *mask)
         expect(penalties[i] == 0, "the penalties of the decoder");
     }
     values[200] = -128;
-    outcome(nospridda_frame_decode(1, 2, values, SYMBOLS, mask, WORD_BYTES, scores, SYMBOLS, penalties, SYMBOLS,
+    outcome(nospridda_frame_decode(pair(1, 2), values, SYMBOLS, mask, WORD_BYTES, scores, SYMBOLS, penalties, SYMBOLS,
                                    &payload, 1),
             NOSPRIDDA_VALUE_OUT_OF_RANGE, 200, "frame decode, a value out of range");
 }
@@ -235,15 +259,15 @@ static void frame_follow(void)
 {
     int8_t values[SYMBOLS];
     uint8_t symbols[WORD_BYTES] = {0};
-    int16_t scores[SYMBOLS] = {0};
-    uint16_t penalties[SYMBOLS];
+    int32_t scores[SYMBOLS] = {0};
+    uint32_t penalties[SYMBOLS];
     size_t i;
 
     for (i = 0; i < SYMBOLS; i++) {
         values[i] = 127;
         penalties[i] = 1;
     }
-    outcome(nospridda_frame_follow(2, 2, values, SYMBOLS, symbols, sizeof symbols, scores, SYMBOLS, penalties, SYMBOLS),
+    outcome(nospridda_frame_follow(pair(2, 2), values, SYMBOLS, symbols, sizeof symbols, scores, SYMBOLS, penalties, SYMBOLS),
             NOSPRIDDA_ACCEPTED, 0, "frame follow");
     expect(scores[0] == 127 && scores[255] == 32512, "the scores of frame follow");
     for (i = 0; i < SYMBOLS; i++) {
@@ -252,14 +276,167 @@ static void frame_follow(void)
 
     /* Partial distance 3 is 2 for kernel 1 and 4 for kernel 2. The word of symbol 255 is all ones. */
     symbols[31] = 1;
-    outcome(nospridda_frame_follow(1, 2, values, SYMBOLS, symbols, sizeof symbols, scores, SYMBOLS, penalties, SYMBOLS),
+    outcome(nospridda_frame_follow(pair(1, 2), values, SYMBOLS, symbols, sizeof symbols, scores, SYMBOLS, penalties, SYMBOLS),
             NOSPRIDDA_ACCEPTED, 0, "frame follow, kernels 1 and 2");
     expect(scores[3] == 2 * 127 && scores[16 * 3] == 4 * 127, "the scores of kernels 1 and 2");
     expect(penalties[254] == 0 && penalties[255] == 32512, "the penalties of symbol 255");
 
     values[200] = -128;
-    outcome(nospridda_frame_follow(2, 2, values, SYMBOLS, symbols, sizeof symbols, scores, SYMBOLS, penalties, SYMBOLS),
+    outcome(nospridda_frame_follow(pair(2, 2), values, SYMBOLS, symbols, sizeof symbols, scores, SYMBOLS, penalties, SYMBOLS),
             NOSPRIDDA_VALUE_OUT_OF_RANGE, 200, "frame follow, a value out of range");
+}
+
+/* One layer is the kernel by itself: symbol 10 of kernel 1, of sixteen, has the word 6ca0. What stands for the other layers is
+ * no kernel. */
+static void one_layer(void)
+{
+    static const uint8_t mask[ONE_BYTES] = {0x00, 0xff};
+    static const uint8_t expected[ONE_BYTES] = {0x6c, 0xa0};
+    static const int32_t distances[SIXTEEN] = {1, 2, 2, 2, 2, 4, 4, 4, 4, 6, 6, 8, 8, 8, 8, 16};
+    struct nospridda_plan plan = plan_of(1, 1, 255, 3);
+    const uint8_t symbol = 0x20;
+    uint8_t symbols[ONE_BYTES] = {0};
+    uint8_t word[ONE_BYTES] = {0};
+    uint8_t payload = 0;
+    int8_t values[SIXTEEN];
+    int32_t scores[SIXTEEN] = {0};
+    uint32_t penalties[SIXTEEN] = {0};
+    size_t i;
+
+    expect(nospridda_part_length(plan, mask, sizeof mask, ONE_BYTES) == 1, "part length, one layer");
+    outcome(nospridda_frame_encode(plan, mask, sizeof mask, &symbol, 1, word, sizeof word), NOSPRIDDA_ACCEPTED, 0,
+            "frame encode, one layer");
+    expect(memcmp(word, expected, sizeof word) == 0, "the word of one layer");
+    outcome(nospridda_frame_undo(plan, mask, sizeof mask, word, sizeof word, &payload, 1), NOSPRIDDA_ACCEPTED, 0,
+            "frame undo, one layer");
+    expect(payload == symbol, "the payload of one layer");
+
+    for (i = 0; i < SIXTEEN; i++) {
+        values[i] = word_bit(0x6ca0, i) ? -127 : 127;
+    }
+    payload = 0;
+    outcome(nospridda_frame_decode(plan, values, SIXTEEN, mask, sizeof mask, scores, SIXTEEN, penalties, SIXTEEN,
+                                   &payload, 1),
+            NOSPRIDDA_ACCEPTED, 0, "frame decode, one layer");
+    expect(payload == symbol && penalties[15] == 0 && scores[15] == 2032, "one layer decoded");
+
+    for (i = 0; i < SIXTEEN; i++) {
+        values[i] = 1;
+    }
+    outcome(nospridda_frame_follow(plan, values, SIXTEEN, symbols, sizeof symbols, scores, SIXTEEN, penalties, SIXTEEN),
+            NOSPRIDDA_ACCEPTED, 0, "frame follow, one layer");
+    expect(memcmp(scores, distances, sizeof scores) == 0, "the partial distances by one layer");
+}
+
+/* Three layers, kernels 0, 1 and 2 from the innermost on, and a payload whose only 1 is the symbol of phase
+ * 2213 = 256 * 8 + 16 * 10 + 5: row 5 of kernel 0 is cc00, row 10 of kernel 1 is 6ca0, row 8 of kernel 2 is a6c0. The digits of
+ * the place run the other way. The mask marks phases 2208 to 2215. */
+enum { FIRST_MARK = 2208, PHASE = 2213 };
+
+static int far_bit(size_t i)
+{
+    return word_bit(0xcc00, i / 256) & word_bit(0x6ca0, i / 16 % 16) & word_bit(0xa6c0, i % 16);
+}
+
+static void three_layers(void)
+{
+    static uint8_t mask[MOST_BYTES];
+    static uint8_t expected[MOST_BYTES];
+    static uint8_t word[MOST_BYTES];
+    static int8_t values[MOST_SYMBOLS];
+    static int32_t scores[MOST_SYMBOLS];
+    static uint32_t penalties[MOST_SYMBOLS];
+    struct nospridda_plan plan = plan_of(3, 0, 1, 2);
+    const uint8_t symbol = 0x80 >> (PHASE - FIRST_MARK);
+    uint8_t payload = 0;
+    size_t i;
+
+    mask[FIRST_MARK / 8] = 0xff;
+    for (i = 0; i < MOST_SYMBOLS; i++) {
+        values[i] = far_bit(i) ? -127 : 127;
+        if (far_bit(i)) {
+            set_bit(expected, i);
+        }
+    }
+    expect(nospridda_part_length(plan, mask, sizeof mask, MOST_BYTES) == 1, "part length, three layers");
+    outcome(nospridda_frame_encode(plan, mask, sizeof mask, &symbol, 1, word, sizeof word), NOSPRIDDA_ACCEPTED, 0,
+            "frame encode, three layers");
+    expect(memcmp(word, expected, sizeof word) == 0, "the word of three layers");
+    outcome(nospridda_frame_undo(plan, mask, sizeof mask, word, sizeof word, &payload, 1), NOSPRIDDA_ACCEPTED, 0,
+            "frame undo, three layers");
+    expect(payload == symbol, "the payload of three layers");
+    payload = 0;
+    outcome(nospridda_frame_decode(plan, values, MOST_SYMBOLS, mask, sizeof mask, scores, MOST_SYMBOLS, penalties,
+                                   MOST_SYMBOLS, &payload, 1),
+            NOSPRIDDA_ACCEPTED, 0, "frame decode, three layers");
+    expect(payload == symbol && scores[PHASE] < 0 && scores[4095] == 520192 && penalties[4095] == 0,
+           "three layers decoded");
+
+    /* Symbol 0, which is not marked: bit 0. */
+    word[0] ^= 0x80;
+    outcome(nospridda_frame_undo(plan, mask, sizeof mask, word, sizeof word, &payload, 1), NOSPRIDDA_FROZEN_ONE, 0,
+            "frame undo, three layers, symbol 0 set");
+}
+
+/* Partial distance 8 is 2 for kernel 0, 4 for kernel 1 and 6 for kernel 2. The word of symbol 4095 is all ones. */
+static void three_followed(void)
+{
+    static uint8_t symbols[MOST_BYTES];
+    static int8_t values[MOST_SYMBOLS];
+    static int32_t scores[MOST_SYMBOLS];
+    static uint32_t penalties[MOST_SYMBOLS];
+    struct nospridda_plan plan = plan_of(3, 1, 2, 0);
+    size_t i;
+
+    for (i = 0; i < MOST_SYMBOLS; i++) {
+        values[i] = 127;
+    }
+    symbols[MOST_BYTES - 1] = 1;
+    outcome(nospridda_frame_follow(plan, values, MOST_SYMBOLS, symbols, sizeof symbols, scores, MOST_SYMBOLS, penalties,
+                                   MOST_SYMBOLS),
+            NOSPRIDDA_ACCEPTED, 0, "frame follow, three layers");
+    expect(scores[8] == 4 * 127 && scores[16 * 8] == 6 * 127 && scores[256 * 8] == 2 * 127, "the scores of three layers");
+    expect(scores[0] == 127 && scores[4095] == 520192, "the first and the last score of three layers");
+    expect(penalties[4094] == 0 && penalties[4095] == 520192, "the penalties of symbol 4095");
+
+    values[4000] = -128;
+    outcome(nospridda_frame_follow(plan, values, MOST_SYMBOLS, symbols, sizeof symbols, scores, MOST_SYMBOLS, penalties,
+                                   MOST_SYMBOLS),
+            NOSPRIDDA_VALUE_OUT_OF_RANGE, 4000, "frame follow, three layers, a value out of range");
+    outcome(nospridda_frame_follow(plan, values, SYMBOLS, symbols, sizeof symbols, scores, MOST_SYMBOLS, penalties,
+                                   MOST_SYMBOLS),
+            NOSPRIDDA_WRONG_LENGTH, 0, "frame follow, three layers, 256 values");
+}
+
+/* A plan that every job of frames refuses by this number, but for the payload part, which is empty. */
+static void plan_refused(struct nospridda_plan plan, const uint8_t *mask, uint32_t number, const char *what)
+{
+    uint8_t bytes[WORD_BYTES] = {0};
+    int8_t values[SYMBOLS] = {-128};
+    int32_t scores[SYMBOLS] = {0};
+    uint32_t penalties[SYMBOLS] = {0};
+
+    outcome(nospridda_frame_encode(plan, mask, WORD_BYTES, &sent, 1, bytes, sizeof bytes), number, 0, what);
+    outcome(nospridda_frame_undo(plan, mask, WORD_BYTES, mask, WORD_BYTES, bytes, sizeof bytes), number, 0, what);
+    outcome(nospridda_frame_follow(plan, values, SYMBOLS, mask, WORD_BYTES, scores, SYMBOLS, penalties, SYMBOLS), number,
+            0, what);
+    outcome(nospridda_frame_decode(plan, values, SYMBOLS, mask, WORD_BYTES, scores, SYMBOLS, penalties, SYMBOLS,
+                                   bytes, sizeof bytes),
+            number, 0, what);
+    expect(nospridda_part_length(plan, mask, WORD_BYTES, WORD_BYTES) == 0, what);
+}
+
+static void plans(const uint8_t *mask)
+{
+    plan_refused(plan_of(0, 2, 2, 2), mask, NOSPRIDDA_BAD_LAYERS, "no layer");
+    plan_refused(plan_of(4, 2, 2, 2), mask, NOSPRIDDA_BAD_LAYERS, "four layers");
+    plan_refused(plan_of(255, 2, 2, 2), mask, NOSPRIDDA_BAD_LAYERS, "255 layers");
+    plan_refused(plan_of(0, 3, 3, 3), mask, NOSPRIDDA_BAD_LAYERS, "no layer, and no kernel");
+    plan_refused(plan_of(1, 3, 2, 2), mask, NOSPRIDDA_NO_KERNEL, "one layer, kernel 3");
+    plan_refused(plan_of(2, 2, 3, 2), mask, NOSPRIDDA_NO_KERNEL, "two layers, kernel 3");
+    plan_refused(plan_of(3, 3, 2, 2), mask, NOSPRIDDA_NO_KERNEL, "three layers, kernel 3 in the first");
+    plan_refused(plan_of(3, 2, 3, 2), mask, NOSPRIDDA_NO_KERNEL, "three layers, kernel 3 in the second");
+    plan_refused(plan_of(3, 2, 2, 3), mask, NOSPRIDDA_NO_KERNEL, "three layers, kernel 3 in the third");
 }
 
 /* A payload for list decode: "123456789" and its checksum, 29b1. */
@@ -269,7 +446,7 @@ static const uint8_t listed[LISTED] = {0x31, 0x32, 0x33, 0x34, 0x35, 0x36, 0x37,
 
 /* A request of it, with buffers that are longer than needed by one byte. */
 struct list_request {
-    uint8_t inner;
+    struct nospridda_plan plan;
     size_t list;
     int8_t values[SYMBOLS];
     size_t values_length;
@@ -287,7 +464,7 @@ static void sealed(struct list_request *r, const uint8_t *payload)
     uint8_t word[WORD_BYTES] = {0};
     size_t i;
 
-    r->inner = 1;
+    r->plan = pair(1, 2);
     r->list = LIST_PATHS;
     r->values_length = SYMBOLS;
     r->mask_length = WORD_BYTES;
@@ -296,7 +473,7 @@ static void sealed(struct list_request *r, const uint8_t *payload)
     memset(r->scratch, 0xa5, sizeof r->scratch);
     memset(r->payload, 0x5a, sizeof r->payload);
     outcome(nospridda_information_mask(LISTED, r->mask, WORD_BYTES), NOSPRIDDA_ACCEPTED, 0, "the mask of a list");
-    outcome(nospridda_frame_encode(1, 2, r->mask, WORD_BYTES, payload, LISTED, word, sizeof word), NOSPRIDDA_ACCEPTED,
+    outcome(nospridda_frame_encode(pair(1, 2), r->mask, WORD_BYTES, payload, LISTED, word, sizeof word), NOSPRIDDA_ACCEPTED,
             0, "the word of a list");
     for (i = 0; i < SYMBOLS; i++) {
         r->values[i] = (word[i / 8] >> (7 - i % 8)) & 1 ? -100 : 100;
@@ -305,7 +482,7 @@ static void sealed(struct list_request *r, const uint8_t *payload)
 
 static struct nospridda_penalty_outcome list_call(struct list_request *r)
 {
-    return nospridda_list_decode(r->inner, 2, r->list, r->values, r->values_length, r->mask, r->mask_length,
+    return nospridda_list_decode(r->plan, r->list, r->values, r->values_length, r->mask, r->mask_length,
                                  r->scratch, r->scratch_length, r->payload, r->payload_length);
 }
 
@@ -392,8 +569,12 @@ static void list_refusals(void)
     list_refused(&r, NOSPRIDDA_WRONG_LIST_SIZE, 0, "list decode, no path");
     r.list = LIST_PATHS + 1;
     list_refused(&r, NOSPRIDDA_WRONG_LIST_SIZE, 0, "list decode, nine paths");
-    r.inner = 3;
+    r.plan.kernels[0] = 3;
     list_refused(&r, NOSPRIDDA_NO_KERNEL, 0, "list decode, kernel 3");
+    r.plan.layers = 1;
+    list_refused(&r, NOSPRIDDA_BAD_LAYERS, 0, "list decode, one layer");
+    r.plan = plan_of(3, 2, 2, 2);
+    list_refused(&r, NOSPRIDDA_BAD_LAYERS, 0, "list decode, three layers");
 }
 
 static void marks(void)
@@ -442,6 +623,10 @@ int main(void)
     encode_and_undo(mask);
     decode(mask);
     frame_follow();
+    one_layer();
+    three_layers();
+    three_followed();
+    plans(mask);
     lists();
     list_refusals();
     marks();

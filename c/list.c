@@ -15,10 +15,12 @@
 #include "nospridda.h"
 
 enum {
-    KERNEL = 2,         /* inner and outer kernel: the pair (2, 2) */
     PAYLOAD_BYTES = 16, /* the checksum among them */
     SEED = 8
 };
+
+/* Two layers, kernel 2 in both; that of the third one is not looked at. */
+static const struct nospridda_plan PLAN = {2, {2, 2, 0}};
 
 /* Ends the program unless something holds. */
 static void expect(int holds, const char *what)
@@ -112,10 +114,10 @@ static unsigned paid(const uint8_t *word, const int8_t *values)
 /* By one path, with no look at the checksum. */
 static void single(const int8_t *values, const uint8_t *mask, uint8_t *payload)
 {
-    int16_t scores[NOSPRIDDA_FRAME_BITS];
-    uint16_t penalties[NOSPRIDDA_FRAME_BITS];
+    int32_t scores[NOSPRIDDA_FRAME_BITS];
+    uint32_t penalties[NOSPRIDDA_FRAME_BITS];
     struct nospridda_outcome outcome = nospridda_frame_decode(
-        KERNEL, KERNEL, values, NOSPRIDDA_FRAME_BITS, mask, NOSPRIDDA_FRAME_BYTES,
+        PLAN, values, NOSPRIDDA_FRAME_BITS, mask, NOSPRIDDA_FRAME_BYTES,
         scores, NOSPRIDDA_FRAME_BITS, penalties, NOSPRIDDA_FRAME_BITS, payload, PAYLOAD_BYTES);
 
     expect(outcome.number == NOSPRIDDA_ACCEPTED, "frame decode is accepted");
@@ -129,7 +131,7 @@ static struct nospridda_penalty_outcome listed(size_t list, const int8_t *values
 {
     static uint8_t scratch[NOSPRIDDA_LIST_BYTES];
     struct nospridda_penalty_outcome outcome = nospridda_list_decode(
-        KERNEL, KERNEL, list, values, NOSPRIDDA_FRAME_BITS, mask, NOSPRIDDA_FRAME_BYTES,
+        PLAN, list, values, NOSPRIDDA_FRAME_BITS, mask, NOSPRIDDA_FRAME_BYTES,
         scratch, sizeof scratch, payload, PAYLOAD_BYTES);
 
     if (outcome.number == NOSPRIDDA_ACCEPTED) {
@@ -156,7 +158,7 @@ int main(void)
     seal(sent, sizeof sent);
     expect(nospridda_information_mask(PAYLOAD_BYTES, mask, sizeof mask).number == NOSPRIDDA_ACCEPTED,
            "information mask is accepted");
-    expect(nospridda_frame_encode(KERNEL, KERNEL, mask, sizeof mask, sent, sizeof sent, word, sizeof word).number ==
+    expect(nospridda_frame_encode(PLAN, mask, sizeof mask, sent, sizeof sent, word, sizeof word).number ==
                NOSPRIDDA_ACCEPTED,
            "frame encode is accepted");
     channel(word, values);

@@ -2,18 +2,20 @@
  * Nospridda: the jobs of the link, for C.
  *
  * Kernels are numbered 0, 1 and 2. Sixteen symbols or bits stand in one
- * number, index 0 in the most significant bit. A frame has an inner and an
- * outer kernel and 256 symbols; its symbols, words, masks and payloads are
- * bytes, eight bits each, index 0 in the most significant bit of the first. A
- * mask marks the information phases: k of them take a payload of k/8 bytes.
+ * number, index 0 in the most significant bit. A frame has a plan: a count of
+ * layers m, which is 1, 2 or 3, and a kernel for each layer. It has 16 to the
+ * power m symbols, that is 16, 256 or 4096. Its symbols, words, masks and
+ * payloads are bytes, eight bits each, index 0 in the most significant bit of
+ * the first; the first three have 2, 32 or 512 of them. A mask marks the
+ * information phases: k of them take a payload of k/8 bytes.
  *
  * Every job but the payload part answers with a number. 0 says that it was
- * accepted; 1 to 13 is the first condition that held, in checking order, and
+ * accepted; 1 to 14 is the first condition that held, in checking order, and
  * the job did nothing else, but for what list decode does before it finds 13.
- * The checking order is 1, 11, 2, 3, 12, 4, 5, 6, 10, 7, 8, 9, 13. With 6, 7 and
- * 9 goes a place, counted from 0; with every other number the place is 0. Each
- * job's text names the numbers that it can answer, in checking order; no other
- * one comes.
+ * The checking order is 14, 1, 11, 2, 3, 12, 4, 5, 6, 10, 7, 8, 9, 13. With 6, 7
+ * and 9 goes a place, counted from 0; with every other number the place is 0.
+ * Each job's text names the numbers that it can answer, in checking order; no
+ * other one comes.
  *
  * Buffers are handed over as a pointer and then the count of elements, which
  * is not always the count of bytes. A buffer that is const is only read. An
@@ -30,9 +32,10 @@
  *
  * The library is built for x86-64 Linux, because that is what the kit that
  * proves it compiles for. Firmware on another processor needs the kit's back
- * end for that processor. On x86-64 list decode takes at most 26.9 KiB of stack,
- * frame follow and frame decode 9.8 KiB, kernel follow 4.4 KiB, and 2.4 KiB by the
- * Hadamard engine (measured, not proved; see docs/BENCH.md).
+ * end for that processor. On x86-64 frame follow and frame decode take at most
+ * 6.1 KiB of stack for one layer, 13.1 KiB for two and 65.3 KiB for three, frame
+ * encode and frame undo 3.6 KiB, list decode 27 KiB, kernel follow 4.5 KiB, and
+ * 2.6 KiB by the Hadamard engine (measured, not proved; see docs/BENCH.md).
  *
  * What the caller must keep, and nothing proves or looks at:
  *
@@ -56,18 +59,25 @@
 /* The version of this interface. It goes up by one with every change of a
  * declaration, a number, a size or a result that callers could rely on. What is
  * only added leaves it as it is. */
-#define NOSPRIDDA_VERSION 4
+#define NOSPRIDDA_VERSION 5
 
 /* Sizes, in elements of the buffer that they are for. */
 #define NOSPRIDDA_KERNEL_BITS 16  /* symbols, bits, values and scores of a kernel */
-#define NOSPRIDDA_FRAME_BITS 256  /* the same of a frame; its penalties; the amplitudes of its marks */
-#define NOSPRIDDA_FRAME_BYTES 32  /* a frame's symbols, word or mask, packed; the longest payload */
-#define NOSPRIDDA_FRAME_MARKS 128 /* the marks that carry a frame */
+#define NOSPRIDDA_FRAME_BITS 256  /* the same of a frame of two layers; its penalties; the amplitudes of its marks */
+#define NOSPRIDDA_FRAME_BYTES 32  /* the symbols, word or mask of such a frame, packed; its longest payload */
+#define NOSPRIDDA_FRAME_MARKS 128 /* the marks that carry such a frame */
 #define NOSPRIDDA_MARK_BYTES 16   /* a bit for each of them, packed: the blanking mask */
 #define NOSPRIDDA_LIST_BYTES 8192 /* the scratch that list decode is lent */
 
+/* The sizes of a frame of m layers, m being 1, 2 or 3; those of an array where m is a constant. */
+#define NOSPRIDDA_SYMBOLS(m) ((size_t)1 << (4 * (m)))     /* symbols, values, scores and penalties: 16, 256 or 4096 */
+#define NOSPRIDDA_BYTES(m) ((size_t)1 << (4 * (m) - 3))   /* symbols, word or mask, packed; the longest payload: 2, 32 or 512 */
+
 /* The most paths that list decode keeps. */
 #define NOSPRIDDA_LIST_PATHS 8
+
+/* The most layers of a frame. */
+#define NOSPRIDDA_LAYERS 3
 
 #ifdef __cplusplus
 extern "C" {
@@ -76,7 +86,7 @@ extern "C" {
 /* The numbers of an answer. */
 enum nospridda_number {
     NOSPRIDDA_ACCEPTED = 0,
-    NOSPRIDDA_NO_KERNEL = 1,          /* a kernel number is not 0, 1 or 2 */
+    NOSPRIDDA_NO_KERNEL = 1,          /* a kernel number, of a plan one of its m layers, is not 0, 1 or 2 */
     NOSPRIDDA_WRONG_LENGTH = 2,       /* an input other than a payload has not the length that its job names */
     NOSPRIDDA_BAD_MASK = 3,           /* a mask marks no phase, or a count that is not a multiple of 8 */
     NOSPRIDDA_WRONG_PAYLOAD = 4,      /* a payload to encode has not the bytes that its mask asks for */
@@ -88,7 +98,29 @@ enum nospridda_number {
     NOSPRIDDA_BAD_SCALE = 10,         /* the scale of values from marks is not a finite number above zero */
     NOSPRIDDA_WRONG_LIST_SIZE = 11,   /* a count of paths for list decode is outside 1 to 8 */
     NOSPRIDDA_FEW_MARKS = 12,         /* a mask for list decode marks fewer than 24 phases: a checksum and a byte */
-    NOSPRIDDA_NO_AGREEING_PATH = 13   /* no final path of list decode has a checksum that agrees; found last */
+    NOSPRIDDA_NO_AGREEING_PATH = 13,  /* no final path of list decode has a checksum that agrees; found last */
+    NOSPRIDDA_BAD_LAYERS = 14         /* a plan's count of layers is not 1, 2 or 3, or not 2 for list decode; looked at first */
+};
+
+/* The plan of a frame. It is handed over by value.
+ *
+ * layers     how many layers m the frame has: 1, 2 or 3.
+ * kernels    the kernel of each layer, the innermost one first. Only the first
+ *            m are looked at; the others may be anything.
+ *
+ * Phases and places are numbers of m digits of base 16. The most significant
+ * digit of a phase belongs to the outermost layer, which is the last one, and
+ * the digits of a place run the other way: the least significant one belongs to
+ * the outermost layer. A bit of the word is the sum, modulo 2, over all phases
+ * of the phase's symbol times the product over the layers of the entry of the
+ * layer's kernel at its digit of the phase (the row) and its digit of the place.
+ *
+ * With two layers, inner kernel A and outer kernel B this is
+ * c[16j+t] = sum over r, s of u[16r+s] * A[s][j] * B[r][t]; with one layer it is
+ * the word of a kernel. */
+struct nospridda_plan {
+    uint8_t layers;
+    uint8_t kernels[NOSPRIDDA_LAYERS];
 };
 
 /* The outcome of a job without a word or a penalty: the number, and the place that a
@@ -169,74 +201,81 @@ struct nospridda_outcome nospridda_kernel_follow_hadamard(
 
 /* Frame encode: the word of a payload.
  *
- * mask       32 bytes.
- * payload    k/8 bytes, k being the count of phases that the mask marks. Its
- *            bits are the symbols at the marked phases, in rising order; all
- *            other symbols are 0. As with every buffer the pointer is not null,
- *            even where payload_length is 0 (which is refused).
- * word       32 bytes are written.
+ * Below m is the count of the plan's layers, n is 16, 256 or 4096, and b is 2,
+ * 32 or 512, for one, two or three layers. So it is for all jobs of frames.
+ *
+ * mask       b bytes.
+ * payload    k/8 bytes, k being the count of phases that the mask marks: of one
+ *            layer 8 or 16. Its bits are the symbols at the marked phases, in
+ *            rising order; all other symbols are 0. As with every buffer the
+ *            pointer is not null, even where payload_length is 0 (which is
+ *            refused).
+ * word       b bytes are written.
  *
  * Answers 0, or, with word left as it was,
- *   1  inner or outer is not 0, 1 or 2;
- *   2  mask_length is not 32;
+ *  14  m is not 1, 2 or 3;
+ *   1  the kernel of one of the m layers is not 0, 1 or 2;
+ *   2  mask_length is not b;
  *   3  the mask marks no phase, or a count that is not a multiple of 8;
  *   4  payload_length is not k/8;
- *   5  word_length is below 32. */
+ *   5  word_length is below b. */
 struct nospridda_outcome nospridda_frame_encode(
-    uint8_t inner, uint8_t outer,
+    struct nospridda_plan plan,
     const uint8_t *mask, size_t mask_length,
     const uint8_t *payload, size_t payload_length,
     uint8_t *word, size_t word_length);
 
-/* Frame undo: the payload of a word, for the same kernels and mask.
+/* Frame undo: the payload of a word, for the same plan and mask.
  *
- * mask       32 bytes.
- * word       32 bytes.
+ * mask       b bytes.
+ * word       b bytes.
  * payload    k/8 bytes are written.
  *
  * Answers 0, or, with payload left as it was,
- *   1  inner or outer is not 0, 1 or 2;
- *   2  mask_length or word_length is not 32;
+ *  14  m is not 1, 2 or 3;
+ *   1  the kernel of one of the m layers is not 0, 1 or 2;
+ *   2  mask_length or word_length is not b;
  *   3  the mask marks no phase, or a count that is not a multiple of 8;
  *   5  payload_length is below k/8;
  *   9  no payload has this word: it has symbol 1 at an unmarked phase; place:
- *      the lowest such phase, 0 to 255. */
+ *      the lowest such phase, 0 to n - 1. */
 struct nospridda_outcome nospridda_frame_undo(
-    uint8_t inner, uint8_t outer,
+    struct nospridda_plan plan,
     const uint8_t *mask, size_t mask_length,
     const uint8_t *word, size_t word_length,
     uint8_t *payload, size_t payload_length);
 
-/* Frame follow: the scores and penalties of 256 symbols over 256 channel
- * values.
+/* Frame follow: the scores and penalties of n symbols over n channel values.
  *
- * values     256 values, each from -127 to 127 and positive for bit 0.
- * symbols    32 bytes.
- * scores     256 of them are written, each from -32512 to 32512.
- * penalties  256 of them are written, each at most 32512.
+ * values     n values, each from -127 to 127 and positive for bit 0.
+ * symbols    b bytes.
+ * scores     n of them are written, each from -127n to 127n: 127n is 2032, 32512
+ *            or 520192.
+ * penalties  n of them are written, each at most 127n.
  *
  * The score of a phase is as with kernel follow, over the words of the frame.
  * Its penalty is what the best word that begins with the symbols up to and with
- * it pays; that of phase 255 is what the word of all symbols pays.
+ * it pays; that of the last phase is what the word of all symbols pays.
  *
  * Answers 0, or, with both outputs left as they were,
- *   1  inner or outer is not 0, 1 or 2;
- *   2  values_length is not 256, or symbols_length is not 32;
- *   5  scores_length or penalties_length is below 256;
- *   6  a value is -128; place: the index of the lowest, 0 to 255. */
+ *  14  m is not 1, 2 or 3;
+ *   1  the kernel of one of the m layers is not 0, 1 or 2;
+ *   2  values_length is not n, or symbols_length is not b;
+ *   5  scores_length or penalties_length is below n;
+ *   6  a value is -128; place: the index of the lowest, 0 to n - 1. */
 struct nospridda_outcome nospridda_frame_follow(
-    uint8_t inner, uint8_t outer,
+    struct nospridda_plan plan,
     const int8_t *values, size_t values_length,
     const uint8_t *symbols, size_t symbols_length,
-    int16_t *scores, size_t scores_length,
-    uint16_t *penalties, size_t penalties_length);
+    int32_t *scores, size_t scores_length,
+    uint32_t *penalties, size_t penalties_length);
 
 /* Frame decode: the same for the decoder's own symbols, and their payload.
  *
- * values     256 values, each from -127 to 127 and positive for bit 0.
- * mask       32 bytes.
- * scores     256 of them are written, each from -32512 to 32512.
- * penalties  256 of them are written, each at most 32512.
+ * values     n values, each from -127 to 127 and positive for bit 0.
+ * mask       b bytes.
+ * scores     n of them are written, each from -127n to 127n.
+ * penalties  n of them are written, each at most 127n.
  * payload    k/8 bytes are written.
  *
  * A symbol is 1 at a marked phase whose score is below 0, else 0. Scores and
@@ -245,21 +284,23 @@ struct nospridda_outcome nospridda_frame_follow(
  * gives some payload: whether it is the one sent, no job can tell.
  *
  * Answers 0, or, with all three outputs left as they were,
- *   1  inner or outer is not 0, 1 or 2;
- *   2  values_length is not 256, or mask_length is not 32;
+ *  14  m is not 1, 2 or 3;
+ *   1  the kernel of one of the m layers is not 0, 1 or 2;
+ *   2  values_length is not n, or mask_length is not b;
  *   3  the mask marks no phase, or a count that is not a multiple of 8;
- *   5  scores_length or penalties_length is below 256, or payload_length is
- *      below k/8;
- *   6  a value is -128; place: the index of the lowest, 0 to 255. */
+ *   5  scores_length or penalties_length is below n, or payload_length is below
+ *      k/8;
+ *   6  a value is -128; place: the index of the lowest, 0 to n - 1. */
 struct nospridda_outcome nospridda_frame_decode(
-    uint8_t inner, uint8_t outer,
+    struct nospridda_plan plan,
     const int8_t *values, size_t values_length,
     const uint8_t *mask, size_t mask_length,
-    int16_t *scores, size_t scores_length,
-    uint16_t *penalties, size_t penalties_length,
+    int32_t *scores, size_t scores_length,
+    uint32_t *penalties, size_t penalties_length,
     uint8_t *payload, size_t payload_length);
 
-/* List decode: a payload that ends in a checksum, by up to eight paths.
+/* List decode: a payload that ends in a checksum, by up to eight paths. It is
+ * for frames of two layers only.
  *
  * list       how many paths are kept at most, 1 to 8.
  * values     256 values, each from -127 to 127 and positive for bit 0.
@@ -289,7 +330,8 @@ struct nospridda_outcome nospridda_frame_decode(
  * checksum can agree by chance: that the payload is the one sent, no job can tell.
  *
  * Answers 0 with the penalty, or, with scratch and payload left as they were,
- *   1  inner or outer is not 0, 1 or 2;
+ *  14  m is not 2;
+ *   1  the kernel of one of the two layers is not 0, 1 or 2;
  *  11  list is not from 1 to 8;
  *   2  values_length is not 256, or mask_length is not 32;
  *   3  the mask marks no phase, or a count that is not a multiple of 8;
@@ -299,7 +341,7 @@ struct nospridda_outcome nospridda_frame_decode(
  * or, with payload left as it was and zeros in the first 8192 bytes of scratch,
  *  13  no final path has a checksum that agrees. */
 struct nospridda_penalty_outcome nospridda_list_decode(
-    uint8_t inner, uint8_t outer,
+    struct nospridda_plan plan,
     size_t list,
     const int8_t *values, size_t values_length,
     const uint8_t *mask, size_t mask_length,
@@ -308,18 +350,20 @@ struct nospridda_penalty_outcome nospridda_list_decode(
 
 /* Payload part: how many of the first bytes of a buffer hold the payload.
  *
- * mask       any length; only one of 32 bytes has a payload.
+ * mask       any length; only one of b bytes has a payload.
  * length     the bytes of the buffer, which itself is not handed over.
  *
- * Answers k/8 for a length of exactly 32. Answers 0 for another length, a mask
- * that is not 32 bytes, or one that marks no phase or a count that is not a
- * multiple of 8. This job has no numbers and refuses nothing. */
+ * Answers k/8 for a length of exactly b. Answers 0 for another length, a mask
+ * that is not b bytes, one that marks no phase or a count that is not a multiple
+ * of 8, and a plan that other jobs refuse by 14 or 1. This job has no numbers and
+ * refuses nothing. */
 size_t nospridda_part_length(
+    struct nospridda_plan plan,
     const uint8_t *mask, size_t mask_length,
     size_t length);
 
-/* Information mask: the mask for a payload of p bytes, with kernel 2 as inner
- * and outer kernel.
+/* Information mask: the mask for a payload of p bytes, for two layers with
+ * kernel 2 in both.
  *
  * mask       32 bytes are written; they mark 8p phases.
  *

@@ -1,4 +1,5 @@
 //! Times of the jobs, and plain calls for tools that count.
+use std::cmp::Reverse;
 use std::hint::black_box;
 use std::process::ExitCode;
 use std::sync::OnceLock;
@@ -7,38 +8,43 @@ use std::time::Instant;
 
 use plain_decoder::Decoder;
 
-use crate::frame::bit_of;
+use crate::frame::{bit_of, bytes, marks_at, packed};
 use crate::library::{
     frame_decode, frame_encode, frame_follow, frame_undo, information_mask, kernel_encode,
     kernel_follow, kernel_follow_hadamard, kernel_undo, list_decode, part_length,
-    values_from_marks, word_by_bits, word_by_rows,
+    values_from_marks, word_by_bits, word_by_rows, Plan,
 };
 use crate::list::with_checksum;
-use crate::paper::Kernel;
+use crate::paper::{Kernel, PROFILES};
 use crate::product::value;
 use crate::random::Random;
 use crate::scores::{pay, scores as kernel_scores, totals, Values, LIMIT};
 
-/// How many different inputs a job is timed on, one after another.
+/// How many different inputs a job is timed on, one after another; but for frames of three layers.
 const INPUTS: usize = 256;
 
-/// The bytes of a frame's payload: k = 128.
-const PAYLOAD: usize = 16;
+/// The same of these.
+const FEW_INPUTS: usize = 32;
+
+/// The bytes of a payload of one layer, two and three: k = 8, 128 and 2,048.
+const PAYLOADS: [usize; 3] = [1, 16, 256];
 
 /// The scale of the marks.
 const SCALE: f32 = 32.0;
 
 /// The library's jobs and a kernel's word by whole rows, what each is called with, and what is timed beside it.
-const JOBS: [(&str, &[&str], &str); 16] = [
+const JOBS: [(&str, &[&str], &str); 18] = [
     ("kernel-encode", KERNELS, "-"),
     ("kernel-undo", KERNELS, "-"),
     ("word-by-rows", KERNELS, "word-by-bits"),
     ("kernel-follow", KERNELS, "sweep-follow"),
     ("kernel-hadamard", KERNELS, "kernel-follow"),
-    ("frame-encode", PAIRS, "-"),
-    ("frame-undo", PAIRS, "-"),
-    ("frame-follow", PAIRS, "-"),
+    ("frame-encode", PLANS, "-"),
+    ("frame-undo", PLANS, "-"),
+    ("frame-follow", PLANS, "-"),
+    ("frame-decode", KERNELS, "-"),
     ("frame-decode", PAIRS, "plain-decode"),
+    ("frame-decode", TRIPLES, "-"),
     ("list-decode-1", PAIRS, "frame-decode"),
     ("list-decode-2", PAIRS, "frame-decode"),
     ("list-decode-4", PAIRS, "frame-decode"),
@@ -47,35 +53,38 @@ const JOBS: [(&str, &[&str], &str); 16] = [
     ("information-mask", NO_KERNEL, "-"),
     ("values-from-marks", NO_KERNEL, "sweep-values"),
 ];
+/// The plans of one layer, two and three, whose kernels are alike.
+const PLANS: &[&str] = &[
+    "0", "1", "2", "0,0", "1,1", "2,2", "0,0,0", "1,1,1", "2,2,2",
+];
 const KERNELS: &[&str] = &["0", "1", "2"];
 const PAIRS: &[&str] = &["0,0", "1,1", "2,2"];
+const TRIPLES: &[&str] = &["0,0,0", "1,1,1", "2,2,2"];
 const NO_KERNEL: &[&str] = &["-"];
 
-/// The kernel or the pair of a name; kernel 0 for none.
-fn pair(name: &str) -> Option<(u8, u8)> {
-    match name.split_once(',') {
-        Some((inner, outer)) => Some((inner.parse().ok()?, outer.parse().ok()?)),
-        None if name == "-" => Some((0, 0)),
-        None => name.parse().ok().map(|kernel| (kernel, kernel)),
-    }
+/// The plan of a name: the kernels of its layers, innermost first; two layers of kernel 0 for none.
+fn plan(name: &str) -> Option<Plan> {
+    let name = if name == "-" { "0,0" } else { name };
+    let kernels: Result<Vec<u8>, _> = name.split(',').map(str::parse).collect();
+    let plan = Plan::of(&kernels.ok()?);
+    (!plan.bad_layers() && !plan.no_kernel()).then_some(plan)
 }
 
-/// The inputs of all jobs. The job of a kernel takes the inner one.
+/// The inputs of all jobs. The job of a kernel takes the innermost one.
 struct Inputs {
-    inner: u8,
-    outer: u8,
+    plan: Plan,
     /// Sixteen symbols, or sixteen bits of a word.
     words: Vec<u16>,
     values: Vec<Values>,
-    mask: [u8; 32],
-    /// They end in their checksum.
-    payloads: Vec<[u8; PAYLOAD]>,
+    mask: Vec<u8>,
+    /// Those of two layers end in their checksum.
+    payloads: Vec<Vec<u8>>,
     /// The words of the payloads.
-    frames: Vec<[u8; 32]>,
+    frames: Vec<Vec<u8>>,
     /// These with some noise.
-    received: Vec<[i8; 256]>,
+    received: Vec<Vec<i8>>,
     /// A frame's symbols, to be followed.
-    symbols: Vec<[u8; 32]>,
+    symbols: Vec<Vec<u8>>,
     amplitudes: Vec<[f32; 256]>,
     decoder: Decoder,
     /// The sweep's tables of the inner kernel, made where they are asked for.
@@ -83,37 +92,42 @@ struct Inputs {
 }
 
 impl Inputs {
-    fn new((inner, outer): (u8, u8)) -> Inputs {
+    fn new(plan: Plan) -> Inputs {
         let mut random = Random::new(2);
-        let mut mask = [0; 32];
-        information_mask(PAYLOAD, &mut mask);
-        let values = inputs(|| std::array::from_fn(|_| random.wide(-LIMIT, LIMIT)));
-        let payloads: Vec<[u8; PAYLOAD]> = inputs(|| {
-            let payload: [u8; PAYLOAD] = std::array::from_fn(|_| random.word() as u8);
-            with_checksum(&payload).try_into().unwrap()
+        let payload = PAYLOADS[usize::from(plan.layers) - 1];
+        let mask = mask(plan, payload);
+        let values = inputs(INPUTS, || {
+            std::array::from_fn(|_| random.wide(-LIMIT, LIMIT))
         });
-        let amplitudes =
-            inputs(|| std::array::from_fn(|_| f32::from(random.between(-4096, 4096)) / 1024.0));
-        let symbols = inputs(|| std::array::from_fn(|_| random.word() as u8));
-        let frames: Vec<[u8; 32]> = payloads
-            .iter()
-            .map(|payload| {
-                let mut word = [0; 32];
-                frame_encode(inner, outer, &mask, payload, &mut word);
-                word
-            })
-            .collect();
+        let count = if plan.layers == 3 { FEW_INPUTS } else { INPUTS };
+        let payloads = inputs(count, || {
+            let payload = bytes(&mut random, payload);
+            if plan.layers == 2 {
+                with_checksum(&payload)
+            } else {
+                payload
+            }
+        });
+        let amplitudes = inputs(INPUTS, || {
+            std::array::from_fn(|_| f32::from(random.between(-4096, 4096)) / 1024.0)
+        });
+        let symbols = inputs(count, || bytes(&mut random, plan.bytes()));
+        let word = |payload: &Vec<u8>| {
+            let mut word = vec![0; plan.bytes()];
+            frame_encode(plan, &mask, payload, &mut word);
+            word
+        };
+        let frames: Vec<Vec<u8>> = payloads.iter().map(word).collect();
         Inputs {
-            inner,
-            outer,
+            plan,
             words: (0..INPUTS).map(|i| (i * 40503 % 65536) as u16).collect(),
             values,
-            mask,
             payloads,
-            received: frames.iter().map(received).collect(),
+            received: frames.iter().map(|word| received(word)).collect(),
             frames,
             symbols,
             amplitudes,
+            mask,
             decoder: Decoder::new(),
             kernel: OnceLock::new(),
         }
@@ -122,7 +136,7 @@ impl Inputs {
     /// Calls a job, or what is timed beside it, `count` times. False where there is none of this name. The functions below
     /// are not inlined, so that the stack of a job has nothing of another.
     fn run(&self, job: &str, count: u64) -> bool {
-        let out = &mut Outputs::new();
+        let out = &mut Outputs::new(self.plan);
         self.kernel_job(job, count, out)
             || self.word_job(job, count, out)
             || self.value_job(job, count, out)
@@ -135,28 +149,28 @@ impl Inputs {
     /// The jobs of one kernel, and both ways to its word.
     #[inline(never)]
     fn kernel_job(&self, job: &str, count: u64, out: &mut Outputs) -> bool {
-        let (inner, scores) = (self.inner, &mut out.sixteen);
+        let (kernel, scores) = (self.plan.kernels[0], &mut out.sixteen);
         match job {
             "kernel-encode" => each(count, |i| {
-                black_box(kernel_encode(inner, self.words[i]));
+                black_box(kernel_encode(kernel, self.words[i]));
             }),
             "kernel-undo" => each(count, |i| {
-                black_box(kernel_undo(inner, self.words[i]));
+                black_box(kernel_undo(kernel, self.words[i]));
             }),
             "word-by-rows" => each(count, |i| {
-                black_box(word_by_rows(inner, self.words[i]));
+                black_box(word_by_rows(kernel, self.words[i]));
             }),
             "word-by-bits" => each(count, |i| {
-                black_box(word_by_bits(inner, self.words[i]));
+                black_box(word_by_bits(kernel, self.words[i]));
             }),
             "kernel-follow" => each(count, |i| {
                 let (y, symbols) = (&self.values[i], self.words[i]);
-                black_box(kernel_follow(inner, y, symbols, &mut scores[..]));
+                black_box(kernel_follow(kernel, y, symbols, &mut scores[..]));
                 black_box(&mut *scores);
             }),
             "kernel-hadamard" => each(count, |i| {
                 let (y, symbols) = (&self.values[i], self.words[i]);
-                black_box(kernel_follow_hadamard(inner, y, symbols, &mut scores[..]));
+                black_box(kernel_follow_hadamard(kernel, y, symbols, &mut scores[..]));
                 black_box(&mut *scores);
             }),
             _ => return false,
@@ -167,17 +181,15 @@ impl Inputs {
     /// Between payloads and the words of frames.
     #[inline(never)]
     fn word_job(&self, job: &str, count: u64, out: &mut Outputs) -> bool {
-        let (inner, outer, mask) = (self.inner, self.outer, &self.mask);
+        let (plan, mask) = (self.plan, &self.mask);
         let bytes = &mut out.bytes;
         match job {
-            "frame-encode" => each(count, |i| {
-                let payload = &self.payloads[i];
-                black_box(frame_encode(inner, outer, mask, payload, bytes));
+            "frame-encode" => each_of(&self.payloads, count, |payload, _| {
+                black_box(frame_encode(plan, mask, payload, bytes));
                 black_box(&mut *bytes);
             }),
-            "frame-undo" => each(count, |i| {
-                let word = &self.frames[i];
-                black_box(frame_undo(inner, outer, mask, word, bytes));
+            "frame-undo" => each_of(&self.frames, count, |word, _| {
+                black_box(frame_undo(plan, mask, word, bytes));
                 black_box(&mut *bytes);
             }),
             _ => return false,
@@ -187,19 +199,18 @@ impl Inputs {
 
     /// From a frame's values.
     #[inline(never)]
-    #[rustfmt::skip]
     fn value_job(&self, job: &str, count: u64, out: &mut Outputs) -> bool {
-        let (inner, outer, mask) = (self.inner, self.outer, &self.mask);
+        let (plan, mask) = (self.plan, &self.mask);
+        #[rustfmt::skip]
         let Outputs { scores, penalties, bytes, .. } = out;
         match job {
-            "frame-follow" => each(count, |i| {
-                let (values, symbols) = (&self.received[i], &self.symbols[i]);
-                black_box(frame_follow(inner, outer, values, symbols, &mut scores[..], &mut penalties[..]));
+            "frame-follow" => each_of(&self.received, count, |values, i| {
+                let symbols = &self.symbols[i];
+                black_box(frame_follow(plan, values, symbols, scores, penalties));
                 black_box((&mut *scores, &mut *penalties));
             }),
-            "frame-decode" => each(count, |i| {
-                let values = &self.received[i];
-                black_box(frame_decode(inner, outer, values, mask, &mut scores[..], &mut penalties[..], bytes));
+            "frame-decode" => each_of(&self.received, count, |values, _| {
+                black_box(frame_decode(plan, values, mask, scores, penalties, bytes));
                 black_box((&mut *scores, &mut *penalties, &mut *bytes));
             }),
             _ => return false,
@@ -214,11 +225,10 @@ impl Inputs {
         let Some(list) = job.strip_prefix("list-decode-").and_then(|list| list.parse().ok()) else {
             return false;
         };
-        let (inner, outer, mask) = (self.inner, self.outer, &self.mask);
+        let (plan, mask) = (self.plan, &self.mask);
         let Outputs { scratch, bytes, .. } = out;
-        each(count, |i| {
-            let values = &self.received[i];
-            black_box(list_decode(inner, outer, list, values, mask, scratch, bytes));
+        each_of(&self.received, count, |values, _| {
+            black_box(list_decode(plan, list, values, mask, scratch, bytes));
             black_box((&mut *scratch, &mut *bytes));
         });
         true
@@ -230,10 +240,10 @@ impl Inputs {
         let Outputs { values, bytes, .. } = out;
         match job {
             "part-length" => each(count, |_| {
-                black_box(part_length(black_box(&self.mask), bytes.len()));
+                black_box(part_length(self.plan, black_box(&self.mask), bytes.len()));
             }),
             "information-mask" => each(count, |_| {
-                black_box(information_mask(PAYLOAD, bytes));
+                black_box(information_mask(PAYLOADS[1], bytes));
                 black_box(&mut *bytes);
             }),
             "values-from-marks" => each(count, |i| {
@@ -251,17 +261,19 @@ impl Inputs {
         true
     }
 
-    /// The plain decoder.
+    /// The plain decoder, which is for two layers.
     #[inline(never)]
     #[rustfmt::skip]
     fn plain_job(&self, job: &str, count: u64, out: &mut Outputs) -> bool {
-        let (inner, outer, mask) = (self.inner, self.outer, &self.mask);
-        let Outputs { scores, penalties, bytes, .. } = out;
+        let ([inner, outer, _], Ok(mask)) = (self.plan.kernels, self.mask[..].try_into()) else {
+            return false;
+        };
+        let Outputs { narrow_scores, narrow_penalties, bytes, .. } = out;
         match job {
-            "plain-decode" => each(count, |i| {
-                let values = &self.received[i];
-                black_box(self.decoder.frame_decode(inner, outer, values, mask, scores, penalties, bytes));
-                black_box((&mut *scores, &mut *penalties, &mut *bytes));
+            "plain-decode" => each_of(&self.received, count, |values, _| {
+                let values: &[i8; 256] = values[..].try_into().unwrap();
+                black_box(self.decoder.frame_decode(inner, outer, values, mask, narrow_scores, narrow_penalties, bytes));
+                black_box((&mut *narrow_scores, &mut *narrow_penalties, &mut *bytes));
             }),
             _ => return false,
         }
@@ -274,7 +286,9 @@ impl Inputs {
         let values = &mut out.values;
         match job {
             "sweep-follow" => {
-                let kernel = self.kernel.get_or_init(|| Kernel::new(self.inner));
+                let kernel = self
+                    .kernel
+                    .get_or_init(|| Kernel::new(self.plan.kernels[0]));
                 let mut paid = Vec::new();
                 each(count, |i| {
                     totals(kernel, &self.values[i], pay, &mut paid);
@@ -296,8 +310,11 @@ impl Inputs {
 struct Outputs {
     /// The scores of a kernel.
     sixteen: Box<[i32; 16]>,
-    scores: Box<[i16; 256]>,
-    penalties: Box<[u16; 256]>,
+    scores: Vec<i32>,
+    penalties: Vec<u32>,
+    /// Those of the plain decoder.
+    narrow_scores: Box<[i16; 256]>,
+    narrow_penalties: Box<[u16; 256]>,
     values: Box<[i8; 256]>,
     bytes: Vec<u8>,
     /// Lent to list decode.
@@ -305,21 +322,43 @@ struct Outputs {
 }
 
 impl Outputs {
-    fn new() -> Outputs {
+    fn new(plan: Plan) -> Outputs {
         Outputs {
             sixteen: Box::new([0; 16]),
-            scores: Box::new([0; 256]),
-            penalties: Box::new([0; 256]),
+            scores: vec![0; plan.symbols()],
+            penalties: vec![0; plan.symbols()],
+            narrow_scores: Box::new([0; 256]),
+            narrow_penalties: Box::new([0; 256]),
             values: Box::new([0; 256]),
-            bytes: vec![0; 32],
+            bytes: vec![0; plan.bytes()],
             scratch: vec![0; 8192],
         }
     }
 }
 
+/// The mask of a payload of so many bytes: the information mask for two layers; for others the phases of greatest product of the
+/// layers' profile numbers, equal products by falling phase, as the order of the information mask has it for two.
+fn mask(plan: Plan, payload: usize) -> Vec<u8> {
+    if plan.layers == 2 {
+        let mut mask = vec![0; plan.bytes()];
+        information_mask(payload, &mut mask);
+        return mask;
+    }
+    let profiles = plan.layers_of(&PROFILES);
+    let product = |phase: usize| -> u32 {
+        let digits = profiles.iter().enumerate();
+        digits
+            .map(|(l, profile)| profile[(phase >> (4 * l)) & 15])
+            .product()
+    };
+    let mut phases: Vec<usize> = (0..plan.symbols()).collect();
+    phases.sort_by_key(|&phase| Reverse((product(phase), phase)));
+    packed(&marks_at(&phases[..8 * payload], plan.symbols()))
+}
+
 /// As many inputs as a job is timed on.
-fn inputs<T>(one: impl FnMut() -> T) -> Vec<T> {
-    std::iter::repeat_with(one).take(INPUTS).collect()
+fn inputs<T>(count: usize, one: impl FnMut() -> T) -> Vec<T> {
+    std::iter::repeat_with(one).take(count).collect()
 }
 
 /// Calls with the numbers of the inputs, one after another.
@@ -329,24 +368,36 @@ fn each(count: u64, mut call: impl FnMut(usize)) {
     }
 }
 
+/// Calls with the inputs themselves, of a frame, and their numbers.
+fn each_of<T>(inputs: &[Vec<T>], count: u64, mut call: impl FnMut(&[T], usize)) {
+    for turn in 0..count {
+        let i = turn as usize % inputs.len();
+        call(&inputs[i], i);
+    }
+}
+
 /// The values of a word received with some noise.
-fn received(word: &[u8; 32]) -> [i8; 256] {
+fn received(word: &[u8]) -> Vec<i8> {
     let mut random = Random::new(u64::from(word[0]));
-    std::array::from_fn(|i| {
-        let y = random.between(-30, 100) as i8;
-        if bit_of(word, i) {
-            -y
-        } else {
-            y
-        }
-    })
+    (0..8 * word.len())
+        .map(|i| {
+            let y = random.between(-30, 100) as i8;
+            if bit_of(word, i) {
+                -y
+            } else {
+                y
+            }
+        })
+        .collect()
 }
 
 /// Nanoseconds of one call: the least of nine rounds.
 fn nanoseconds(inputs: &Inputs, job: &str) -> f64 {
     let calls = match job {
         "kernel-encode" | "kernel-undo" | "word-by-rows" => 1_000_000,
+        "frame-follow" | "frame-decode" if inputs.plan.layers == 3 => FEW_INPUTS as u64,
         "frame-follow" | "frame-decode" | "plain-decode" => 500,
+        "frame-encode" | "frame-undo" if inputs.plan.layers == 3 => 1000,
         "sweep-follow" | "sweep-values" => INPUTS as u64,
         _ if job.starts_with("list-decode-") => INPUTS as u64,
         _ => 10_000,
@@ -365,7 +416,7 @@ pub fn times() -> ExitCode {
     println!("job kernel ns beside beside-ns");
     for (job, kernels, beside) in JOBS {
         for kernel in kernels {
-            let inputs = Inputs::new(pair(kernel).unwrap());
+            let inputs = Inputs::new(plan(kernel).unwrap());
             print!("{job} {kernel} {:.1} {beside} ", nanoseconds(&inputs, job));
             if beside == "-" {
                 println!("-");
@@ -379,9 +430,9 @@ pub fn times() -> ExitCode {
 
 /// Only the calls, in a thread of their own, for tools that count their instructions or measure their stack.
 pub fn calls(job: &str, kernel: &str, count: &str) -> ExitCode {
-    let ran = match (pair(kernel), count.parse()) {
-        (Some(pair), Ok(count)) => {
-            let inputs = Inputs::new(pair);
+    let ran = match (plan(kernel), count.parse()) {
+        (Some(plan), Ok(count)) => {
+            let inputs = Inputs::new(plan);
             thread::scope(|scope| scope.spawn(|| inputs.run(job, count)).join().unwrap())
         }
         _ => false,

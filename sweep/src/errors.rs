@@ -2,12 +2,15 @@
 use std::process::ExitCode;
 
 use crate::frame::bit_of;
-use crate::library::{frame_decode, frame_encode, information_mask, list_decode};
+use crate::library::{frame_decode, frame_encode, information_mask, list_decode, Plan};
 use crate::list::with_checksum;
 use crate::random::Random;
 
-/// The inner and the outer kernel.
-const KERNEL: u8 = 2;
+/// Two layers, kernel 2 in both.
+const PLAN: Plan = Plan {
+    layers: 2,
+    kernels: [2, 2, 0],
+};
 
 /// The bytes of a payload, two of them the checksum: k = 128.
 const PAYLOAD: usize = 16;
@@ -34,7 +37,7 @@ fn frame(random: &mut Random, mask: &[u8], noise: i16) -> (Vec<u8>, Vec<i8>) {
     let payload: Vec<u8> = (0..PAYLOAD).map(|_| random.word() as u8).collect();
     let payload = with_checksum(&payload);
     let mut word = [0; 32];
-    frame_encode(KERNEL, KERNEL, mask, &payload, &mut word);
+    frame_encode(PLAN, mask, &payload, &mut word);
     let values = (0..256)
         .map(|i| {
             let sent = if bit_of(&word, i) { -32 } else { 32 };
@@ -50,8 +53,7 @@ fn decoded_wrong(mask: &[u8], values: &[i8], sent: &[u8]) -> bool {
     let (mut scores, mut penalties) = ([0; 256], [0; 256]);
     let mut payload = [0; PAYLOAD];
     frame_decode(
-        KERNEL,
-        KERNEL,
+        PLAN,
         values,
         mask,
         &mut scores,
@@ -68,7 +70,7 @@ pub fn count() -> ExitCode {
     information_mask(PAYLOAD, &mut mask);
     let mut scratch = vec![0; 8192];
     println!(
-        "wrong of {FRAMES} frames, pair ({KERNEL}, {KERNEL}), k = {}; of lists: refused by 13 + another payload",
+        "wrong of {FRAMES} frames, pair (2, 2), k = {}; of lists: refused by 13 + another payload",
         8 * PAYLOAD
     );
     println!("noise  frame decode   list 1   list 2   list 4   list 8");
@@ -80,15 +82,7 @@ pub fn count() -> ExitCode {
             single += usize::from(decoded_wrong(&mask, &values, &sent));
             for (wrong, list) in lists.iter_mut().zip(LISTS) {
                 let mut payload = [0; PAYLOAD];
-                let outcome = list_decode(
-                    KERNEL,
-                    KERNEL,
-                    list,
-                    &values,
-                    &mask,
-                    &mut scratch,
-                    &mut payload,
-                );
+                let outcome = list_decode(PLAN, list, &values, &mask, &mut scratch, &mut payload);
                 match outcome.number {
                     0 => wrong.other += usize::from(payload[..] != sent[..]),
                     13 => wrong.refused += 1,

@@ -1,6 +1,6 @@
 //! Kernel follow by both engines: every phase of every case against the best over all words, and the engines against each other.
 use crate::library::Outcome;
-use crate::paper::{bit, Kernel};
+use crate::paper::{bit, Kernel, PROFILES};
 use crate::random::Random;
 use crate::recorded::{kernel_follow, kernel_follow_hadamard};
 use crate::scores::{best_symbols, pay, scores, totals, Values, LIMIT};
@@ -199,16 +199,11 @@ fn random_cases(tally: &mut Tally, kernel: &Kernel, random: &mut Random, mistake
 
 /// The paper's bench cases of kernel follow.
 fn bench_cases(tally: &mut Tally, kernels: &[Kernel]) {
-    let profiles: [[i64; 16]; 3] = [
-        [1, 2, 2, 4, 2, 4, 4, 8, 2, 4, 4, 8, 4, 8, 8, 16],
-        [1, 2, 2, 2, 2, 4, 4, 4, 4, 6, 6, 8, 8, 8, 8, 16],
-        [1, 2, 2, 4, 2, 2, 4, 4, 6, 6, 8, 8, 4, 8, 8, 16],
-    ];
     let mut cases = 0;
     for kernel in kernels {
-        let profile = profiles[usize::from(kernel.number)];
+        let profile = PROFILES[usize::from(kernel.number)];
         for y in [1, 2047, 2048, LIMIT] {
-            let want = profile.map(|d| i64::from(y) * d);
+            let want = profile.map(|d| i64::from(y) * i64::from(d));
             compare(tally, kernel.number, &[y; 16], 0, &want);
             cases += 1;
         }

@@ -1,11 +1,16 @@
 //! Frame encode, frame undo, the payload part's length and the information mask.
 use std::fs;
 
-use crate::frame::{order, packed, placed, symbols, taken, unpacked, word, Bits};
-use crate::library::Outcome;
+use crate::frame::{
+    bit_by_sum, bytes, marks_at, ones, order, packed, placed, symbols, taken, unpacked, word,
+};
+use crate::library::{Outcome, Plan};
 use crate::paper::Kernel;
+use crate::plan::{of_layers, LAYERS};
 use crate::random::Random;
-use crate::recorded::{frame_encode, frame_undo, information_mask, part_length};
+use crate::recorded::{
+    frame_encode, frame_undo, information_mask, kernel_encode, kernel_undo, part_length,
+};
 use crate::tally::Tally;
 
 /// What an output buffer holds before a call.
@@ -19,12 +24,19 @@ const FRAME_CASES: &str = concat!(env!("CARGO_MANIFEST_DIR"), "/../crates/frame_
 
 pub fn sweep(tally: &mut Tally, kernels: &[Kernel]) {
     let mut random = Random::new(3);
-    round_trips(tally, kernels, &mut random);
-    damage(tally, kernels, &mut random);
-    frozen_ones(tally, kernels);
-    no_kernel(tally, kernels, &mut random);
-    lengths(tally, kernels, &mut random);
-    requests(tally, kernels, &mut random);
+    sums(tally, kernels, &mut random);
+    for layers in 1..=LAYERS {
+        round_trips(tally, kernels, &mut random, layers);
+        damage(tally, kernels, &mut random, layers);
+        frozen_ones(tally, kernels, layers);
+        ends(tally, kernels, &mut random, layers);
+        no_kernel(tally, kernels, &mut random, layers);
+        lengths(tally, kernels, &mut random, layers);
+        at_once(tally, kernels, &mut random, layers);
+        requests(tally, kernels, &mut random, layers);
+    }
+    one_layer(tally);
+    refused_layers(tally, kernels, &mut random);
     parts(tally, &mut random);
     masks(tally, kernels);
     frame_cases(tally, kernels);
@@ -64,9 +76,9 @@ fn call(room: usize, job: impl FnOnce(&mut [u8]) -> Outcome) -> Done {
 }
 
 /// A request of frame encode or frame undo.
+#[derive(Clone)]
 struct Request {
-    inner: u8,
-    outer: u8,
+    plan: Plan,
     mask: Vec<u8>,
     /// The payload to encode, or the word to undo.
     input: Vec<u8>,
@@ -74,15 +86,8 @@ struct Request {
 }
 
 impl Request {
-    fn no_kernel(&self) -> bool {
-        self.inner > 2 || self.outer > 2
-    }
-
     fn marked(&self) -> usize {
-        self.mask
-            .iter()
-            .map(|byte| byte.count_ones() as usize)
-            .sum()
+        ones(&self.mask)
     }
 
     fn bad_mask(&self) -> bool {
@@ -91,55 +96,52 @@ impl Request {
 
     /// What frame encode must leave.
     fn encoded(&self, kernels: &[Kernel]) -> Done {
+        let plan = self.plan;
         let conditions = [
-            (self.no_kernel(), 1),
-            (self.mask.len() != 32, 2),
+            (plan.bad_layers(), 14),
+            (plan.no_kernel(), 1),
+            (self.mask.len() != plan.bytes(), 2),
             (self.bad_mask(), 3),
             (self.input.len() != self.marked() / 8, 4),
-            (self.room < 32, 5),
+            (self.room < plan.bytes(), 5),
         ];
         settled(&conditions, self.room, || {
-            let (inner, outer) = self.pair(kernels);
             let symbols = placed(&unpacked(&self.mask), &self.input);
-            accepted(&packed(&word(inner, outer, &symbols)), self.room)
+            let word = word(&plan.layers_of(kernels), &symbols);
+            accepted(&packed(&word), self.room)
         })
     }
 
     /// What frame undo must leave.
     fn undone(&self, kernels: &[Kernel]) -> Done {
+        let plan = self.plan;
+        let wrong_length = |bytes: &[u8]| bytes.len() != plan.bytes();
         let conditions = [
-            (self.no_kernel(), 1),
-            (self.mask.len() != 32 || self.input.len() != 32, 2),
+            (plan.bad_layers(), 14),
+            (plan.no_kernel(), 1),
+            (wrong_length(&self.mask) || wrong_length(&self.input), 2),
             (self.bad_mask(), 3),
             (self.room < self.marked() / 8, 5),
         ];
         settled(&conditions, self.room, || {
-            let (inner, outer) = self.pair(kernels);
             let mask = unpacked(&self.mask);
-            let symbols = symbols(inner, outer, &unpacked(&self.input));
-            match (0..256).find(|&i| symbols[i] && !mask[i]) {
+            let symbols = symbols(&plan.layers_of(kernels), &unpacked(&self.input));
+            match (0..plan.symbols()).find(|&i| symbols[i] && !mask[i]) {
                 Some(phase) => refused(9, phase, self.room),
                 None => accepted(&taken(&mask, &symbols), self.room),
             }
         })
     }
 
-    fn pair<'a>(&self, kernels: &'a [Kernel]) -> (&'a Kernel, &'a Kernel) {
-        (
-            &kernels[usize::from(self.inner)],
-            &kernels[usize::from(self.outer)],
-        )
-    }
-
     fn encode(&self) -> Done {
         call(self.room, |word| {
-            frame_encode(self.inner, self.outer, &self.mask, &self.input, word)
+            frame_encode(self.plan, &self.mask, &self.input, word)
         })
     }
 
     fn undo(&self) -> Done {
         call(self.room, |payload| {
-            frame_undo(self.inner, self.outer, &self.mask, &self.input, payload)
+            frame_undo(self.plan, &self.mask, &self.input, payload)
         })
     }
 
@@ -147,205 +149,414 @@ impl Request {
         tally.expect(
             want == got,
             format_args!(
-                "{job}, pair ({}, {}), mask {:02x?}, input {:02x?}, room {}: wanted {want:02x?}, got {got:02x?}",
-                self.inner, self.outer, self.mask, self.input, self.room
+                "{job}, {:?}, mask {:02x?}, input {:02x?}, room {}: wanted {want:02x?}, got {got:02x?}",
+                self.plan, self.mask, self.input, self.room
             ),
         );
     }
+
+    /// The request as one of frame encode. What it must leave.
+    fn compare_encoded(&self, tally: &mut Tally, what: &str, kernels: &[Kernel]) -> Done {
+        let want = self.encoded(kernels);
+        self.compare(tally, &format!("encode, {what}"), &want, &self.encode());
+        want
+    }
+
+    /// The request as one of frame undo. What it must leave.
+    fn compare_undone(&self, tally: &mut Tally, what: &str, kernels: &[Kernel]) -> Done {
+        let want = self.undone(kernels);
+        self.compare(tally, &format!("undo, {what}"), &want, &self.undo());
+        want
+    }
 }
 
-fn bytes(random: &mut Random, count: usize) -> Vec<u8> {
-    (0..count).map(|_| random.word() as u8).collect()
+/// One of some numbers of cases: for one layer, two and three.
+fn turns_of(layers: u8, turns: [usize; 3]) -> usize {
+    turns[usize::from(layers) - 1]
 }
 
 /// A mask that is taken: some multiple of 8 phases, dense or sparse.
-fn mask(random: &mut Random) -> Vec<u8> {
+fn mask(random: &mut Random, plan: Plan) -> Vec<u8> {
     let one_in = random.between(1, 8);
-    let mut marks: Bits = std::array::from_fn(|_| random.once_in(one_in));
+    let mut marks: Vec<bool> = (0..plan.symbols())
+        .map(|_| random.once_in(one_in))
+        .collect();
     while !marks.contains(&true) || marks.iter().filter(|&&marked| marked).count() % 8 != 0 {
-        marks[random.between(0, 255) as usize] ^= true;
+        marks[place(random, plan.symbols())] ^= true;
     }
     packed(&marks)
 }
 
+/// One of some places.
+fn place(random: &mut Random, count: usize) -> usize {
+    random.wide(0, count as i32 - 1) as usize
+}
+
 /// A request of frame encode that is accepted.
-fn request(random: &mut Random, pair: usize) -> Request {
-    let mask = mask(random);
-    let marked: u32 = mask.iter().map(|byte| byte.count_ones()).sum();
+fn request(random: &mut Random, plan: Plan) -> Request {
+    let mask = mask(random, plan);
     Request {
-        inner: (pair % 3) as u8,
-        outer: (pair / 3 % 3) as u8,
-        input: bytes(random, marked as usize / 8),
+        plan,
+        input: bytes(random, ones(&mask) / 8),
         mask,
-        room: 32 + SPARE,
+        room: plan.bytes() + SPARE,
     }
+}
+
+/// The same with any plan of some layers.
+fn any_request(random: &mut Random, layers: u8) -> Request {
+    let plan = Plan::any(random, layers);
+    request(random, plan)
 }
 
 /// The request of frame undo for the word of a request of frame encode.
 fn back(request: &Request, word: &[u8]) -> Request {
     Request {
-        inner: request.inner,
-        outer: request.outer,
+        plan: request.plan,
         mask: request.mask.clone(),
-        input: word.to_vec(),
+        input: word[..request.plan.bytes()].to_vec(),
         room: request.input.len() + SPARE,
     }
 }
 
-/// Random pairs, masks and payloads: the word by the double sum, and the payload again.
-fn round_trips(tally: &mut Tally, kernels: &[Kernel], random: &mut Random) {
-    let turns = 450;
-    for turn in 0..turns {
-        let there = request(random, turn);
-        let want = there.encoded(kernels);
-        there.compare(tally, "encode", &want, &there.encode());
-        let here = back(&there, &want.1[..32]);
-        let payload = accepted(&there.input, here.room);
-        here.compare(tally, "undo", &payload, &here.undo());
+/// Words of all plans, every bit by the sum over all digits.
+fn sums(tally: &mut Tally, kernels: &[Kernel], random: &mut Random) {
+    let mut cases = 0;
+    for layers in 1..=LAYERS {
+        let each = turns_of(layers, [32, 50, 1]);
+        for number in 0..each * Plan::count(layers) {
+            let plan = Plan::number(layers, number);
+            let (n, layers) = (plan.symbols(), plan.layers_of(kernels));
+            let there = Request {
+                plan,
+                mask: vec![0xff; plan.bytes()],
+                input: bytes(random, plan.bytes()),
+                room: plan.bytes() + SPARE,
+            };
+            let symbols = unpacked(&there.input);
+            let sum: Vec<bool> = (0..n).map(|i| bit_by_sum(&layers, &symbols, i)).collect();
+            let want = accepted(&packed(&sum), there.room);
+            there.compare(tally, "encode, by the sum", &want, &there.encode());
+            tally.expect(
+                sum == word(&layers, &symbols),
+                format_args!("{plan:?}: the sum over all digits and that of whole rows differ"),
+            );
+            cases += 1;
+        }
     }
-    tally.group("frames of all pairs, there and back", 2 * turns as u64);
+    tally.group(
+        "frames of all plans, words by the sum over all digits",
+        cases,
+    );
 }
 
-/// Every single bit of some words damaged, and words at random.
-fn damage(tally: &mut Tally, kernels: &[Kernel], random: &mut Random) {
+/// Random plans, masks and payloads: the word by the sum, and the payload again.
+fn round_trips(tally: &mut Tally, kernels: &[Kernel], random: &mut Random, layers: u8) {
+    let turns = turns_of(layers, [450, 450, 108]);
+    for turn in 0..turns {
+        let there = request(random, Plan::number(layers, turn));
+        let (_, word) = there.compare_encoded(tally, "there", kernels);
+        let here = back(&there, &word);
+        let payload = accepted(&there.input, here.room);
+        here.compare(tally, "undo, and back", &payload, &here.undo());
+    }
+    let name = of_layers(layers, "frames of all plans, there and back");
+    tally.group(&name, 2 * turns as u64);
+}
+
+/// Single bits of some words damaged, every one of them but for three layers, and words at random.
+fn damage(tally: &mut Tally, kernels: &[Kernel], random: &mut Random, layers: u8) {
     let mut cases = 0;
     let mut other = 0;
-    for pair in 0..9 {
-        let mut there = request(random, pair);
-        if pair % 3 == 1 {
+    for number in 0..Plan::count(layers) {
+        let plan = Plan::number(layers, number);
+        let mut there = request(random, plan);
+        if number % 3 == 1 {
             // All phases marked: every word is that of a payload.
             there.mask.fill(0xff);
-            there.input = bytes(random, 32);
+            there.input = bytes(random, plan.bytes());
         }
         let (_, word) = there.encoded(kernels);
-        for place in 0..256 {
-            let mut here = back(&there, &word[..32]);
+        let (first, step) = if layers == LAYERS {
+            (number, 255)
+        } else {
+            (0, 1)
+        };
+        for place in (first..plan.symbols()).step_by(step) {
+            let mut here = back(&there, &word);
             here.input[place / 8] ^= 0x80 >> (place % 8);
-            let want = here.undone(kernels);
+            let want = here.compare_undone(tally, "a damaged word", kernels);
             other += u64::from(want.0.number == 0);
-            here.compare(tally, "undo of a damaged word", &want, &here.undo());
             cases += 1;
         }
-        for _ in 0..20 {
-            let mut here = back(&there, &word[..32]);
-            here.input = bytes(random, 32);
-            let want = here.undone(kernels);
-            here.compare(tally, "undo of any word", &want, &here.undo());
+        for _ in 0..turns_of(layers, [20, 20, 4]) {
+            let mut here = back(&there, &word);
+            here.input = bytes(random, plan.bytes());
+            here.compare_undone(tally, "any word", kernels);
             cases += 1;
         }
     }
-    tally.group("damaged words", cases);
+    tally.group(&of_layers(layers, "damaged words"), cases);
     tally.line(
         format_args!("of them, undone to another payload: {other}"),
         0,
     );
 }
 
-/// The only symbol 1 at each phase, unmarked with seven others; then with the highest of these at 1 as well.
-fn frozen_ones(tally: &mut Tally, kernels: &[Kernel]) {
+/// The only symbol 1 at each phase, unmarked with seven others; then with the highest of these at 1 as well. Of three layers
+/// some phases, with all digits.
+fn frozen_ones(tally: &mut Tally, kernels: &[Kernel], layers: u8) {
     let mut cases = 0;
-    for phase in 0..256 {
-        let (inner, outer) = (phase % 3, phase / 3 % 3);
-        let unmarked: Vec<usize> = (0..8).map(|i| (phase + 31 * i) % 256).collect();
+    let step = turns_of(layers, [1, 1, 13]);
+    for phase in (0..Plan::number(layers, 0).symbols()).step_by(step) {
+        let plan = Plan::number(layers, phase / step);
+        let n = plan.symbols();
+        // An odd step, so that they are different ones.
+        let unmarked: Vec<usize> = (0..8).map(|i| (phase + (n / 8 - 1) * i) % n).collect();
         let highest = *unmarked.iter().max().unwrap();
         for other in [phase, highest] {
-            let symbols: Bits = std::array::from_fn(|i| i == phase || i == other);
-            let marks: Bits = std::array::from_fn(|i| !unmarked.contains(&i));
+            let symbols: Vec<bool> = (0..n).map(|i| i == phase || i == other).collect();
+            let marks: Vec<bool> = (0..n).map(|i| !unmarked.contains(&i)).collect();
             let here = Request {
-                inner: inner as u8,
-                outer: outer as u8,
+                plan,
                 mask: packed(&marks),
-                input: packed(&word(&kernels[inner], &kernels[outer], &symbols)),
-                room: 31 + SPARE,
+                input: packed(&word(&plan.layers_of(kernels), &symbols)),
+                room: plan.bytes() - 1 + SPARE,
             };
             let want = refused(9, phase, here.room);
             here.compare(tally, "undo of a frozen one", &want, &here.undo());
             cases += 1;
         }
     }
-    tally.group("an unmarked symbol 1 at every phase", cases);
+    let name = of_layers(layers, "an unmarked symbol 1 at every phase");
+    tally.group(&name, cases);
 }
 
-/// Numbers that no kernel has, as inner and as outer kernel, alone and with every other fault.
-fn no_kernel(tally: &mut Tally, kernels: &[Kernel], random: &mut Random) {
+/// k = 8 at the first phases and at the last ones, and k = 16 to the power of the layers; into buffers just long enough, longer
+/// by one and much longer.
+fn ends(tally: &mut Tally, kernels: &[Kernel], random: &mut Random, layers: u8) {
     let mut cases = 0;
-    for kernel in 3..=u8::MAX {
-        for (inner, outer) in [(kernel, 0), (1, kernel), (kernel, kernel)] {
-            let mut there = request(random, 0);
-            (there.inner, there.outer) = (inner, outer);
-            let mut here = back(&there, &[0; 32]);
+    for number in 0..Plan::count(layers) {
+        let plan = Plan::number(layers, number);
+        let last = plan.bytes() - 1;
+        for marked in [0..=0, last..=last, 0..=last] {
+            let mut mask = vec![0; plan.bytes()];
+            mask[marked.clone()].fill(0xff);
+            for spare in [0, 1, 1000] {
+                let there = Request {
+                    plan,
+                    mask: mask.clone(),
+                    input: bytes(random, marked.clone().count()),
+                    room: plan.bytes() + spare,
+                };
+                let (_, word) = there.compare_encoded(tally, "an end", kernels);
+                let mut here = back(&there, &word);
+                here.room = there.input.len() + spare;
+                let want = accepted(&there.input, here.room);
+                here.compare(tally, "undo, an end", &want, &here.undo());
+                cases += 2;
+            }
+        }
+    }
+    let name = of_layers(layers, "encode and undo, the least k and the greatest");
+    tally.group(&name, cases);
+}
+
+/// Numbers that no kernel has, in each layer and in all, alone and with every other fault; and in a layer that is not used, where
+/// they are not looked at.
+fn no_kernel(tally: &mut Tally, kernels: &[Kernel], random: &mut Random, layers: u8) {
+    let mut cases = 0;
+    let step = turns_of(layers, [1, 1, 9]);
+    for kernel in (3..=u8::MAX).step_by(step) {
+        for layer in 0..=usize::from(LAYERS) {
+            let mut there = any_request(random, layers);
+            match there.plan.kernels.get_mut(layer) {
+                Some(other) => *other = kernel,
+                None => there.plan.kernels = [kernel; 3],
+            }
+            let mut here = back(&there, &vec![0; there.plan.bytes()]);
             for _ in 0..2 {
-                let want = there.encoded(kernels);
-                there.compare(tally, "encode", &want, &there.encode());
-                let want = here.undone(kernels);
-                here.compare(tally, "undo", &want, &here.undo());
+                there.compare_encoded(tally, "no kernel", kernels);
+                here.compare_undone(tally, "no kernel", kernels);
                 cases += 2;
                 for request in [&mut there, &mut here] {
-                    request.mask = vec![0; 31];
+                    request.mask.truncate(request.plan.bytes() - 1);
+                    request.mask.fill(0);
                     request.input.push(0);
                     request.room = 0;
                 }
             }
         }
     }
-    tally.group("encode and undo, kernels 3 to 255 refused", cases);
+    let name = of_layers(layers, "encode and undo, numbers of kernels");
+    tally.group(&name, cases);
 }
 
-/// Every combination of lengths, right and wrong, with a mask that is taken, one of 255 phases and one of none.
-fn lengths(tally: &mut Tally, kernels: &[Kernel], random: &mut Random) {
+/// Every count of layers that is refused, alone, with no kernel and with every other fault; with the lengths of one layer, two and
+/// three.
+fn refused_layers(tally: &mut Tally, kernels: &[Kernel], random: &mut Random) {
     let mut cases = 0;
-    for length in [0, 1, 31, 32, 33, 64] {
+    for layers in (0..=u8::MAX).filter(|layers| !(1..=LAYERS).contains(layers)) {
+        for like in 1..=LAYERS {
+            let mut there = any_request(random, like);
+            let mut here = back(&there, &vec![0; there.plan.bytes()]);
+            for request in [&mut there, &mut here] {
+                request.plan.kernels = Plan::any(random, LAYERS).kernels;
+                request.plan.layers = layers;
+            }
+            for _ in 0..3 {
+                there.compare_encoded(tally, "refused layers", kernels);
+                here.compare_undone(tally, "refused layers", kernels);
+                cases += 2;
+                for request in [&mut there, &mut here] {
+                    if request.plan.no_kernel() {
+                        request.mask.clear();
+                        request.input.push(0);
+                        request.room = 0;
+                    }
+                    request.plan.kernels = [3, 255, 4];
+                }
+            }
+        }
+    }
+    tally.group("encode and undo, layers 0 and 4 to 255 refused", cases);
+}
+
+/// One layer is the kernel by itself: words and symbols are those of kernel encode and kernel undo.
+fn one_layer(tally: &mut Tally) {
+    let mut cases = 0;
+    for kernel in 0..3 {
+        for sixteen in (0..=u16::MAX).step_by(7) {
+            let request = Request {
+                plan: Plan::of(&[kernel]),
+                mask: vec![0xff; 2],
+                input: sixteen.to_be_bytes().to_vec(),
+                room: 2,
+            };
+            for (job, got, want) in [
+                ("encode", request.encode(), kernel_encode(kernel, sixteen)),
+                ("undo", request.undo(), kernel_undo(kernel, sixteen)),
+            ] {
+                let want = accepted(&want.word.to_be_bytes(), 2);
+                request.compare(tally, job, &want, &got);
+                cases += 1;
+            }
+        }
+    }
+    tally.group("one layer, as kernel encode and kernel undo", cases);
+}
+
+/// Every combination of lengths, right and wrong, with a mask that is taken, one of all phases but one and one of none.
+fn lengths(tally: &mut Tally, kernels: &[Kernel], random: &mut Random, layers: u8) {
+    let mut cases = 0;
+    let all = Plan::number(layers, 0).bytes();
+    // The right one, one off, and what is right for other layers.
+    let mut tried = vec![0, 1, all - 1, all, all + 1, 2 * all, 2, 32, 512];
+    tried.sort();
+    tried.dedup();
+    for &length in &tried {
         for (fill, first) in [(0xff, 0xff), (0xff, 0xfe), (0, 0)] {
-            for count in [0, 1, 31, 32, 33, 64] {
-                for room in [0, 1, 31, 32, 33] {
+            for &count in &tried {
+                for room in [0, 1, all - 1, all, all + 1] {
                     let mut mask = vec![fill; length];
                     mask.iter_mut().take(1).for_each(|byte| *byte = first);
                     let request = Request {
-                        inner: random.between(0, 2) as u8,
-                        outer: random.between(0, 2) as u8,
+                        plan: Plan::any(random, layers),
                         mask,
                         input: bytes(random, count),
                         room,
                     };
-                    let want = request.encoded(kernels);
-                    request.compare(tally, "encode", &want, &request.encode());
-                    let want = request.undone(kernels);
-                    request.compare(tally, "undo", &want, &request.undo());
+                    request.compare_encoded(tally, "lengths", kernels);
+                    request.compare_undone(tally, "lengths", kernels);
                     cases += 2;
                 }
             }
         }
     }
-    tally.group("encode and undo, lengths of all buffers", cases);
+    let name = of_layers(layers, "encode and undo, lengths of all buffers");
+    tally.group(&name, cases);
+}
+
+/// Each condition of a job, as what makes it hold.
+type Fault = fn(&mut Request);
+
+const ENCODE: [(u32, Fault); 6] = [
+    (14, |request| request.plan.layers = 4),
+    (1, |request| request.plan.kernels[0] = 3),
+    (2, |request| request.mask.push(0)),
+    (3, |request| request.mask[0] ^= 1),
+    (4, |request| request.input.push(0)),
+    (5, |request| request.room = request.plan.bytes().min(2) - 1),
+];
+
+const UNDO: [(u32, Fault); 6] = [
+    (14, |request| request.plan.layers = 0),
+    (1, |request| request.plan.kernels[0] = 255),
+    (2, |request| request.input.push(0)),
+    (3, |request| request.mask[0] ^= 1),
+    (5, |request| request.room = 0),
+    (9, |request| request.input.fill(0xff)),
+];
+
+/// Every condition alone, every two at once and all from one on: the first in checking order is named.
+fn at_once(tally: &mut Tally, kernels: &[Kernel], random: &mut Random, layers: u8) {
+    let mut cases = 0;
+    for (undoes, faults) in [(false, ENCODE), (true, UNDO)] {
+        for first in 0..faults.len() {
+            for second in first..=faults.len() {
+                let mut request = any_request(random, layers);
+                request.mask.fill(0xff);
+                // With a phase that is not marked among those of the last symbols, whose word is all ones.
+                *request.mask.last_mut().unwrap() = 0;
+                request.input = bytes(random, request.marked() / 8);
+                if undoes {
+                    request.input = vec![0; request.plan.bytes()];
+                }
+                for (i, (_, fault)) in faults.iter().enumerate().rev() {
+                    if i == first || i == second || second == faults.len() && i > first {
+                        fault(&mut request);
+                    }
+                }
+                let want = if undoes {
+                    request.compare_undone(tally, "at once", kernels)
+                } else {
+                    request.compare_encoded(tally, "at once", kernels)
+                };
+                let (number, got) = (faults[first].0, want.0.number);
+                tally.expect(
+                    number == got,
+                    format_args!("conditions at once: meant {number}, made {got}"),
+                );
+                cases += 1;
+            }
+        }
+    }
+    let name = of_layers(layers, "encode and undo, conditions at once");
+    tally.group(&name, cases);
 }
 
 /// Requests with some of their parts spoiled, so that several conditions can hold at once.
-fn requests(tally: &mut Tally, kernels: &[Kernel], random: &mut Random) {
-    let mut met = [[0u64; 10]; 2];
-    let turns = 20_000;
+fn requests(tally: &mut Tally, kernels: &[Kernel], random: &mut Random, layers: u8) {
+    let mut met = [[0u64; 15]; 2];
+    let turns = turns_of(layers, [5000, 20_000, 600]);
     for turn in 0..turns {
-        let mut there = request(random, turn);
+        let plan = Plan::number(layers, turn);
+        let mut there = request(random, plan);
         spoil(random, &mut there);
-        let want = there.encoded(kernels);
+        let want = there.compare_encoded(tally, "a request", kernels);
         met[0][want.0.number as usize] += 1;
-        there.compare(tally, "encode", &want, &there.encode());
 
-        let mut here = request(random, turn);
-        let marked = here.input.len();
-        here.room = marked + SPARE;
-        here.input = if random.once_in(2) {
-            bytes(random, 32)
-        } else {
-            here.room = 32;
-            here.encoded(kernels).1
-        };
-        here.room = marked + SPARE;
+        let mut here = request(random, plan);
+        let (_, word) = here.encoded(kernels);
+        here = back(&here, &word);
+        if random.once_in(2) {
+            here.input = bytes(random, plan.bytes());
+        }
         spoil(random, &mut here);
-        let want = here.undone(kernels);
+        let want = here.compare_undone(tally, "a request", kernels);
         met[1][want.0.number as usize] += 1;
-        here.compare(tally, "undo", &want, &here.undo());
     }
-    tally.group("requests", 2 * turns as u64);
+    tally.group(&of_layers(layers, "requests"), 2 * turns as u64);
     for (job, met) in ["encode", "undo"].iter().zip(met) {
         tally.line(
             format_args!("of them, {job} by the number answered: {met:?}"),
@@ -353,65 +564,82 @@ fn requests(tally: &mut Tally, kernels: &[Kernel], random: &mut Random) {
         );
     }
     tally.expect(
-        [0, 1, 2, 3, 4, 5].iter().all(|&n| met[0][n] > 0)
-            && [0, 1, 2, 3, 5, 9].iter().all(|&n| met[1][n] > 0),
+        [0, 1, 2, 3, 4, 5, 14].iter().all(|&n| met[0][n] > 0)
+            && [0, 1, 2, 3, 5, 9, 14].iter().all(|&n| met[1][n] > 0),
         format_args!("not every condition was met: {met:?}"),
     );
 }
 
 /// Each part of a request is spoiled now and then.
 fn spoil(random: &mut Random, request: &mut Request) {
-    if random.once_in(5) {
-        request.inner = random.between(0, 4) as u8;
+    let bytes = request.plan.bytes();
+    if random.once_in(12) {
+        request.plan.layers = random.between(0, 4) as u8;
     }
     if random.once_in(5) {
-        request.outer = random.word() as u8;
+        request.plan.kernels[0] = random.between(0, 4) as u8;
     }
     if random.once_in(5) {
-        request.mask.resize(random.between(30, 34) as usize, 0xff);
+        let layer = random.between(0, 2) as usize;
+        request.plan.kernels[layer] = random.word() as u8;
     }
     if random.once_in(5) {
-        let at = random.between(0, request.mask.len() as i16 - 1) as usize;
+        let length = (bytes + place(random, 5)).saturating_sub(2);
+        request.mask.resize(length, 0xff);
+    }
+    if random.once_in(5) && !request.mask.is_empty() {
+        let at = place(random, request.mask.len());
         request.mask[at] ^= random.word() as u8;
     }
     if random.once_in(20) {
         request.mask.fill(0);
     }
     if random.once_in(5) {
-        let length = request.input.len() as i16 + random.between(-1, 1);
-        request.input.resize(length as usize, 0);
+        let length = request.input.len() + place(random, 3);
+        request.input.resize(length.saturating_sub(1), 0);
     }
     if random.once_in(5) {
-        request.room = random.between(0, 34) as usize;
+        request.room = place(random, bytes + 3);
     }
 }
 
-/// The length of the payload part.
+/// The length of the payload part, for all layers and for plans that are refused.
 fn parts(tally: &mut Tally, random: &mut Random) {
-    let turns = 3000;
+    let turns = 6000;
     for turn in 0..turns {
-        let mut mask = mask(random);
-        let mut length = 32;
-        match turn % 5 {
-            0 => {
-                let lengths = [0, 1, 30, 31, 33, 34, 64];
-                mask.resize(lengths[random.between(0, 6) as usize], 0xff);
-            }
+        let layers = 1 + (turn / 6 % 3) as u8;
+        let mut plan = Plan::any(random, layers);
+        let mut mask = mask(random, plan);
+        let mut length = plan.bytes();
+        let others = [0, 1, 2, 30, 31, 32, 33, 64, 511, 512, 513];
+        match turn % 6 {
+            0 => mask.resize(others[place(random, 11)], 0xff),
             1 => {
-                let lengths = [0, 1, 31, 33, 64, 32 + (1 << 32), usize::MAX];
-                length = lengths[random.between(0, 6) as usize];
+                let far = [length - 1, length + 1, length + (1 << 32), usize::MAX];
+                length = [&others[..], &far].concat()[place(random, 15)];
             }
-            2 => mask[random.between(0, 31) as usize] ^= random.word() as u8,
-            3 => mask.fill([0, 0xff][turn / 5 % 2]),
+            2 => {
+                let at = place(random, length);
+                mask[at] ^= random.word() as u8;
+            }
+            3 => mask.fill([0, 0xff][turn / 18 % 2]),
+            4 => {
+                let layer = place(random, 3);
+                plan.kernels[layer] = random.between(0, 5) as u8;
+                plan.layers = [layers, layers, 0, 4, 255][place(random, 5)];
+            }
             _ => {}
         }
-        let marked: u32 = mask.iter().map(|byte| byte.count_ones()).sum();
-        let whole = mask.len() == 32 && length == 32 && marked % 8 == 0;
-        let want = if whole { marked as usize / 8 } else { 0 };
-        let got = part_length(&mask, length);
+        let marked = ones(&mask);
+        let right = !plan.bad_layers() && !plan.no_kernel();
+        let whole = mask.len() == plan.bytes() && length == plan.bytes() && marked % 8 == 0;
+        let want = if right && whole { marked / 8 } else { 0 };
+        let got = part_length(plan, &mask, length);
         tally.expect(
             want == got,
-            format_args!("part of {length} bytes, mask {mask:02x?}: wanted {want}, got {got}"),
+            format_args!(
+                "part of {length} bytes, {plan:?}, mask {mask:02x?}: wanted {want}, got {got}"
+            ),
         );
     }
     tally.group("payload parts", turns as u64);
@@ -425,9 +653,7 @@ fn masks(tally: &mut Tally, kernels: &[Kernel]) {
         for p in (0..=40).chain([usize::MAX / 8 + 2, usize::MAX]) {
             let conditions = [(room < 32, 5), (!(1..=32).contains(&p), 8)];
             let want = settled(&conditions, room, || {
-                let first = &order[..8 * p];
-                let marks: Bits = std::array::from_fn(|i| first.contains(&i));
-                accepted(&packed(&marks), room)
+                accepted(&packed(&marks_at(&order[..8 * p], 256)), room)
             });
             let got = call(room, |mask| information_mask(p, mask));
             tally.expect(
@@ -465,15 +691,21 @@ fn frame_cases(tally: &mut Tally, kernels: &[Kernel]) {
     late[31] = 1;
     let all = vec![255; 32];
     let cases = [
-        ("encode (0, 1)", 0, 1, &mixed, &payload[..]),
-        ("encode (1, 0)", 1, 0, &mixed, payload),
-        ("encode (1, 2)", 1, 2, &mixed, payload),
-        ("encode (2, 2)", 2, 2, &mixed, payload),
-        ("encode (2, 1), k 256", 2, 1, &all, &late),
+        (
+            "encode 2 0 1 3 6 32 12 36 9999 0",
+            0,
+            1,
+            &mixed,
+            &payload[..],
+        ),
+        ("encode 2 1 0 255 6 32 12 36 9999 0", 1, 0, &mixed, payload),
+        ("encode 2 1 2 0 6 32 12 36 9999 0", 1, 2, &mixed, payload),
+        ("encode 2 2 2 0 6 32 12 36 9999 0", 2, 2, &mixed, payload),
+        ("encode 2 2 1 0 1 32 32 36 200 255", 2, 1, &all, &late),
     ];
     for (label, inner, outer, mask, payload) in cases {
         let symbols = placed(&unpacked(mask), payload);
-        let mut buffer = packed(&word(&kernels[inner], &kernels[outer], &symbols));
+        let mut buffer = packed(&word(&[&kernels[inner], &kernels[outer]], &symbols));
         buffer.extend([UNTOUCHED; SPARE]);
         let hexadecimal: String = buffer.iter().map(|byte| format!("{byte:02x}")).collect();
         let want = format!("{label}: 0 0, {hexadecimal}");

@@ -1,47 +1,8 @@
-//! Frames of two layers, scored layer by layer over all words of each kernel, and over all words of the frame.
+//! Frames of any layers, scored layer by layer over all words of each kernel, and over all words of the frame.
 //!
-//! Nothing here knows of scores between the layers: an outer word hands the inner kernel the least total for bit 0 and
-//! for bit 1, and a penalty is the least total itself.
-
-/// A kernel of n symbols: the word of each choice of symbols, symbol 0 and bit 0 in the most significant of n bits.
-pub struct Block {
-    pub n: usize,
-    pub words: Vec<u16>,
-}
-
-impl Block {
-    /// Bit j of the word of some symbols.
-    pub fn bit(&self, symbols: usize, j: usize) -> bool {
-        (self.words[symbols] >> (self.n - 1 - j)) & 1 == 1
-    }
-
-    /// Entry s, j: bit j of the word with only symbol s set.
-    fn entry(&self, s: usize, j: usize) -> bool {
-        self.bit(1 << (self.n - 1 - s), j)
-    }
-
-    /// The total of every word, where place j pays `costs[j][bit]`.
-    fn totals(&self, costs: &[[i32; 2]]) -> Vec<i32> {
-        (0..self.words.len())
-            .map(|u| {
-                costs
-                    .iter()
-                    .enumerate()
-                    .map(|(j, cost)| cost[usize::from(self.bit(u, j))])
-                    .sum()
-            })
-            .collect()
-    }
-
-    /// The least total of the words whose symbols begin with the first `count` symbols, which stand in `front`.
-    fn least(&self, totals: &[i32], front: usize, count: usize) -> i32 {
-        let free = self.n - count;
-        *totals[front << free..(front + 1) << free]
-            .iter()
-            .min()
-            .unwrap()
-    }
-}
+//! Nothing here knows of scores between the layers: a layer hands the next one inward, for each of its words, the least total
+//! for bit 0 and for bit 1, and a penalty is the least total itself.
+use crate::block::{Block, Least};
 
 /// What a value pays for bit 0 and for bit 1.
 pub fn pay(value: i32) -> [i32; 2] {
@@ -65,105 +26,99 @@ impl Found {
     }
 }
 
-/// Layer by layer. `choose` gives the symbol of a phase from its score.
-pub fn layered(
-    inner: &Block,
-    outer: &Block,
-    values: &[i32],
-    choose: impl Fn(usize, i32) -> bool,
-) -> Found {
-    let mut found = Found::default();
-    let blocks: Vec<Vec<i32>> = values
+/// How a symbol is chosen, from its phase and the phase's score.
+type Choose<'a> = &'a dyn Fn(usize, i32) -> bool;
+
+/// The layers given, innermost first, and what each place pays for bit 0 and for bit 1, all other layers' symbols of the frame
+/// being known or free. The word of the symbols that were chosen.
+fn run(layers: &[&Block], costs: &[[i32; 2]], choose: Choose, found: &mut Found) -> Vec<bool> {
+    let Some((outer, inner)) = layers.split_last() else {
+        let [least] = costs else {
+            panic!("no layer and {} places", costs.len());
+        };
+        let symbol = choose(found.symbols.len(), least[1] - least[0]);
+        found.push(*least, symbol);
+        return vec![symbol];
+    };
+    // The words of this layer, with the symbols of each so far.
+    let mut words: Vec<(Least, usize)> = costs
         .chunks(outer.n)
-        .map(|block| {
-            let costs: Vec<[i32; 2]> = block.iter().map(|&y| pay(y)).collect();
-            outer.totals(&costs)
-        })
+        .map(|costs| (Least::new(outer, costs), 0))
         .collect();
-    // The symbols of the outer words so far.
-    let mut columns = vec![0; inner.n];
     for r in 0..outer.n {
-        let costs: Vec<[i32; 2]> = blocks
+        let costs: Vec<[i32; 2]> = words
             .iter()
-            .zip(&columns)
-            .map(|(totals, &front)| [0, 1].map(|bit| outer.least(totals, 2 * front + bit, r + 1)))
+            .map(|(least, front)| [0, 1].map(|bit| least.of(2 * front + bit, r + 1)))
             .collect();
-        let totals = inner.totals(&costs);
-        let mut row = 0;
-        for s in 0..inner.n {
-            let least = [0, 1].map(|bit| inner.least(&totals, 2 * row + bit, s + 1));
-            let symbol = choose(inner.n * r + s, least[1] - least[0]);
-            row = 2 * row + usize::from(symbol);
-            found.push(least, symbol);
-        }
-        for (j, column) in columns.iter_mut().enumerate() {
-            *column = 2 * *column + usize::from(inner.bit(row, j));
+        let bits = run(inner, &costs, choose, found);
+        for ((_, front), bit) in words.iter_mut().zip(bits) {
+            *front = 2 * *front + usize::from(bit);
         }
     }
+    let bits = |&(_, symbols): &(Least, usize)| (0..outer.n).map(move |j| outer.bit(symbols, j));
+    words.iter().flat_map(bits).collect()
+}
+
+/// Layer by layer. `choose` gives the symbol of a phase from its score.
+pub fn layered(layers: &[&Block], values: &[i32], choose: impl Fn(usize, i32) -> bool) -> Found {
+    let mut found = Found::default();
+    let costs: Vec<[i32; 2]> = values.iter().map(|&y| pay(y)).collect();
+    run(layers, &costs, &choose, &mut found);
     found
 }
 
-/// The word of a frame's symbols: c[wj+t] is the sum over r, s of u[nr+s] × A[s][j] × B[r][t].
-fn word(inner: &Block, outer: &Block, symbols: &[bool]) -> Vec<bool> {
-    let (n, w) = (inner.n, outer.n);
-    (0..n * w)
-        .map(|place| {
-            let (j, t) = (place / w, place % w);
-            let mut sum = false;
-            for r in 0..w {
-                for s in 0..n {
-                    sum ^= symbols[n * r + s] & inner.entry(s, j) & outer.entry(r, t);
-                }
-            }
-            sum
-        })
-        .collect()
+/// The word of a frame's symbols: the sum of the rows of those that are 1. A row is the product of the layers' rows at the
+/// digits of the phase, of which the innermost layer's is the least significant; of a place it is the most significant.
+pub fn word(layers: &[&Block], symbols: &[bool]) -> Vec<bool> {
+    let mut sum = vec![false; symbols.len()];
+    for phase in (0..symbols.len()).filter(|&i| symbols[i]) {
+        let mut rest = phase;
+        let row = layers.iter().fold(vec![true], |front, block| {
+            let (n, s) = (block.n, rest % block.n);
+            rest /= n;
+            let with = |&one: &bool| (0..n).map(move |j| one && block.bit(1 << (n - 1 - s), j));
+            front.iter().flat_map(with).collect()
+        });
+        add(&mut sum, &row);
+    }
+    sum
+}
+
+fn add(sum: &mut [bool], word: &[bool]) {
+    sum.iter_mut().zip(word).for_each(|(bit, one)| *bit ^= one);
 }
 
 /// The total of every word whose symbols agree with the first ones, `count` of them being free. The words are sums of
-/// those of single symbols, each by the sum above.
-pub fn totals_from(
-    inner: &Block,
-    outer: &Block,
-    values: &[i32],
-    symbols: &[bool],
-    count: usize,
-) -> Vec<i32> {
+/// those of single symbols, each by the sum above; from each to the next one symbol changes.
+pub fn totals_from(layers: &[&Block], values: &[i32], symbols: &[bool], count: usize) -> Vec<i32> {
     let known = symbols.len() - count;
     let mut front = symbols.to_vec();
     front[known..].fill(false);
-    let first = word(inner, outer, &front);
     let unit = |i: usize| {
         let mut unit = vec![false; symbols.len()];
-        unit[i] = true;
-        word(inner, outer, &unit)
+        unit[symbols.len() - 1 - i] = true;
+        word(layers, &unit)
     };
-    let units: Vec<Vec<bool>> = (known..symbols.len()).map(unit).collect();
-    let total = |u: usize| {
-        let mut word = first.clone();
-        for (i, unit) in units.iter().enumerate() {
-            if (u >> (count - 1 - i)) & 1 == 1 {
-                for (bit, one) in word.iter_mut().zip(unit) {
-                    *bit ^= one;
-                }
-            }
+    let units: Vec<Vec<bool>> = (0..count).map(unit).collect();
+    let costs: Vec<[i32; 2]> = values.iter().map(|&y| pay(y)).collect();
+    let mut totals = vec![0; 1 << count];
+    let (mut u, mut bits) = (0, word(layers, &front));
+    for next in 1..=1usize << count {
+        let paid = costs.iter().zip(&bits);
+        totals[u] = paid.map(|(cost, &bit)| cost[usize::from(bit)]).sum();
+        let changed = next.trailing_zeros() as usize;
+        if changed < count {
+            u ^= 1 << changed;
+            add(&mut bits, &units[changed]);
         }
-        let paid = values.iter().zip(&word);
-        paid.map(|(&y, &bit)| pay(y)[usize::from(bit)]).sum()
-    };
-    (0..1 << count).map(total).collect()
+    }
+    totals
 }
 
 /// The scores and penalties of the last `count` phases of these symbols, over all words that agree with the symbols
 /// before them, with no layering.
-pub fn over_all_words(
-    inner: &Block,
-    outer: &Block,
-    values: &[i32],
-    symbols: &[bool],
-    count: usize,
-) -> Found {
-    let totals = totals_from(inner, outer, values, symbols, count);
+pub fn over_all_words(layers: &[&Block], values: &[i32], symbols: &[bool], count: usize) -> Found {
+    let totals = totals_from(layers, values, symbols, count);
     let mut found = Found::default();
     let mut front = 0;
     for (i, &symbol) in symbols[symbols.len() - count..].iter().enumerate() {

@@ -26,6 +26,14 @@ pub struct PenaltyOutcome {
     pub penalty: u32,
 }
 
+/// The plan of a frame: how many layers it has, and the kernel of each, innermost first.
+#[repr(C)]
+#[derive(Clone, Copy, Debug, PartialEq, Eq)]
+pub struct Plan {
+    pub layers: u8,
+    pub kernels: [u8; 3],
+}
+
 extern "C" {
     fn nospridda_kernel_encode(kernel: u8, symbols: u16) -> WordOutcome;
     fn nospridda_kernel_undo(kernel: u8, word: u16) -> WordOutcome;
@@ -46,8 +54,7 @@ extern "C" {
         scores_length: usize,
     ) -> Outcome;
     fn nospridda_frame_encode(
-        inner: u8,
-        outer: u8,
+        plan: Plan,
         mask: *const u8,
         mask_length: usize,
         payload: *const u8,
@@ -56,8 +63,7 @@ extern "C" {
         word_length: usize,
     ) -> Outcome;
     fn nospridda_frame_undo(
-        inner: u8,
-        outer: u8,
+        plan: Plan,
         mask: *const u8,
         mask_length: usize,
         word: *const u8,
@@ -66,34 +72,31 @@ extern "C" {
         payload_length: usize,
     ) -> Outcome;
     fn nospridda_frame_follow(
-        inner: u8,
-        outer: u8,
+        plan: Plan,
         values: *const i8,
         values_length: usize,
         symbols: *const u8,
         symbols_length: usize,
-        scores: *mut i16,
+        scores: *mut i32,
         scores_length: usize,
-        penalties: *mut u16,
+        penalties: *mut u32,
         penalties_length: usize,
     ) -> Outcome;
     fn nospridda_frame_decode(
-        inner: u8,
-        outer: u8,
+        plan: Plan,
         values: *const i8,
         values_length: usize,
         mask: *const u8,
         mask_length: usize,
-        scores: *mut i16,
+        scores: *mut i32,
         scores_length: usize,
-        penalties: *mut u16,
+        penalties: *mut u32,
         penalties_length: usize,
         payload: *mut u8,
         payload_length: usize,
     ) -> Outcome;
     fn nospridda_list_decode(
-        inner: u8,
-        outer: u8,
+        plan: Plan,
         list: usize,
         values: *const i8,
         values_length: usize,
@@ -104,7 +107,12 @@ extern "C" {
         payload: *mut u8,
         payload_length: usize,
     ) -> PenaltyOutcome;
-    fn nospridda_part_length(mask: *const u8, mask_length: usize, length: usize) -> usize;
+    fn nospridda_part_length(
+        plan: Plan,
+        mask: *const u8,
+        mask_length: usize,
+        length: usize,
+    ) -> usize;
     fn nospridda_information_mask(p: usize, mask: *mut u8, mask_length: usize) -> Outcome;
     fn nospridda_values_from_marks(
         scale: f32,
@@ -171,12 +179,11 @@ pub fn kernel_follow_hadamard(
     }
 }
 
-pub fn frame_encode(inner: u8, outer: u8, mask: &[u8], payload: &[u8], word: &mut [u8]) -> Outcome {
+pub fn frame_encode(plan: Plan, mask: &[u8], payload: &[u8], word: &mut [u8]) -> Outcome {
     // Safe for every input, as with kernel follow.
     unsafe {
         nospridda_frame_encode(
-            inner,
-            outer,
+            plan,
             mask.as_ptr(),
             mask.len(),
             payload.as_ptr(),
@@ -187,12 +194,11 @@ pub fn frame_encode(inner: u8, outer: u8, mask: &[u8], payload: &[u8], word: &mu
     }
 }
 
-pub fn frame_undo(inner: u8, outer: u8, mask: &[u8], word: &[u8], payload: &mut [u8]) -> Outcome {
+pub fn frame_undo(plan: Plan, mask: &[u8], word: &[u8], payload: &mut [u8]) -> Outcome {
     // Safe for every input, as with kernel follow.
     unsafe {
         nospridda_frame_undo(
-            inner,
-            outer,
+            plan,
             mask.as_ptr(),
             mask.len(),
             word.as_ptr(),
@@ -203,9 +209,9 @@ pub fn frame_undo(inner: u8, outer: u8, mask: &[u8], word: &[u8], payload: &mut 
     }
 }
 
-pub fn part_length(mask: &[u8], length: usize) -> usize {
+pub fn part_length(plan: Plan, mask: &[u8], length: usize) -> usize {
     // Safe for every input, as with kernel follow.
-    unsafe { nospridda_part_length(mask.as_ptr(), mask.len(), length) }
+    unsafe { nospridda_part_length(plan, mask.as_ptr(), mask.len(), length) }
 }
 
 pub fn information_mask(p: usize, mask: &mut [u8]) -> Outcome {
@@ -214,18 +220,16 @@ pub fn information_mask(p: usize, mask: &mut [u8]) -> Outcome {
 }
 
 pub fn frame_follow(
-    inner: u8,
-    outer: u8,
+    plan: Plan,
     values: &[i8],
     symbols: &[u8],
-    scores: &mut [i16],
-    penalties: &mut [u16],
+    scores: &mut [i32],
+    penalties: &mut [u32],
 ) -> Outcome {
     // Safe for every input, as with kernel follow.
     unsafe {
         nospridda_frame_follow(
-            inner,
-            outer,
+            plan,
             values.as_ptr(),
             values.len(),
             symbols.as_ptr(),
@@ -239,19 +243,17 @@ pub fn frame_follow(
 }
 
 pub fn frame_decode(
-    inner: u8,
-    outer: u8,
+    plan: Plan,
     values: &[i8],
     mask: &[u8],
-    scores: &mut [i16],
-    penalties: &mut [u16],
+    scores: &mut [i32],
+    penalties: &mut [u32],
     payload: &mut [u8],
 ) -> Outcome {
     // Safe for every input, as with kernel follow.
     unsafe {
         nospridda_frame_decode(
-            inner,
-            outer,
+            plan,
             values.as_ptr(),
             values.len(),
             mask.as_ptr(),
@@ -267,8 +269,7 @@ pub fn frame_decode(
 }
 
 pub fn list_decode(
-    inner: u8,
-    outer: u8,
+    plan: Plan,
     list: usize,
     values: &[i8],
     mask: &[u8],
@@ -278,8 +279,7 @@ pub fn list_decode(
     // Safe for every input, as with kernel follow.
     unsafe {
         nospridda_list_decode(
-            inner,
-            outer,
+            plan,
             list,
             values.as_ptr(),
             values.len(),

@@ -1,8 +1,9 @@
 //! List decoding by the paper's rules: layer by layer, and over all words of a frame. And the checksum of a payload.
 //!
 //! Layer by layer a penalty is looked up. Of every outer word the least totals are made once, for all symbols that it can
-//! begin with; of the inner word anew for each path at the beginning of a row.
-use crate::layered::{pay, totals_from, Block};
+//! begin with; of the inner word anew for each path at the beginning of a row. Lists are for two layers only.
+use crate::block::{Block, Least};
+use crate::layered::{pay, totals_from};
 
 /// The CRC-16 of some bytes, bit by bit: polynomial 1021, start ffff, most significant bit first.
 pub fn checksum(bytes: &[u8]) -> u16 {
@@ -32,43 +33,6 @@ pub fn with_checksum(payload: &[u8]) -> Vec<u8> {
     [data, &checksum(data).to_be_bytes()].concat()
 }
 
-/// The least totals of a kernel's words, by the symbols that they begin with: those of `count` symbols stand from
-/// place 2 to the power `count` on, in the order of their numbers.
-#[derive(Default)]
-struct Fronts(Vec<i32>);
-
-impl Fronts {
-    /// Makes them anew, where place j pays `costs[j][bit]`.
-    fn make(&mut self, block: &Block, costs: &[[i32; 2]]) {
-        let words = block.words.len();
-        // What some places pay together for each choice of their bits.
-        let sums = |costs: &[[i32; 2]]| -> Vec<i32> {
-            costs.iter().fold(vec![0], |sums, cost| {
-                let both = |&sum: &i32| cost.map(|one| sum + one);
-                sums.iter().flat_map(both).collect()
-            })
-        };
-        let (first, last) = costs.split_at(block.n / 2);
-        let (high, low, shift) = (sums(first), sums(last), last.len());
-        let least = &mut self.0;
-        least.resize(2 * words, 0);
-        for (to, &word) in least[words..].iter_mut().zip(&block.words) {
-            let word = usize::from(word);
-            *to = high[word >> shift] + low[word & (low.len() - 1)];
-        }
-        for count in (0..block.n).rev() {
-            let (fewer, more) = least.split_at_mut(2 << count);
-            for (to, two) in fewer[1 << count..].iter_mut().zip(more.chunks_exact(2)) {
-                *to = two[0].min(two[1]);
-            }
-        }
-    }
-
-    fn least(&self, front: usize, count: usize) -> i32 {
-        self.0[(1 << count) + front]
-    }
-}
-
 /// A path: its symbols and its penalty.
 #[derive(Clone, Debug, PartialEq, Eq)]
 pub struct Path {
@@ -90,40 +54,25 @@ struct Going {
 
 impl Going {
     /// With one symbol more; `rows` has the least totals of the row, for each origin, and `count` symbols are before it.
-    fn with(&self, rows: &[Fronts], count: usize, symbol: bool) -> Going {
+    fn with(&self, rows: &[Least], count: usize, symbol: bool) -> Going {
         let mut next = self.clone();
         next.row = 2 * self.row + usize::from(symbol);
-        next.path.penalty = rows[self.origin].least(next.row, count + 1);
+        next.path.penalty = rows[self.origin].of(next.row, count + 1);
         next.path.symbols.push(symbol);
         next
     }
 }
 
-/// The tables of a list decoding, lent from one to the next: only their memory is used again.
-#[derive(Default)]
-pub struct Tables {
-    /// Of each outer word.
-    blocks: Vec<Fronts>,
-    /// Of the inner word in a row, for each path at its beginning.
-    rows: Vec<Fronts>,
-}
-
 /// The final paths, in order. `marked` has the marks of the frame, and `most` is how many paths stay.
 pub fn list(
-    tables: &mut Tables,
-    inner: &Block,
-    outer: &Block,
+    [inner, outer]: [&Block; 2],
     values: &[i32],
     marked: &[bool],
     most: usize,
 ) -> Vec<Path> {
-    let Tables { blocks, rows } = tables;
-    blocks.resize_with(inner.n, Fronts::default);
-    rows.resize_with(most, Fronts::default);
-    for (block, values) in blocks.iter_mut().zip(values.chunks(outer.n)) {
-        let costs: Vec<[i32; 2]> = values.iter().map(|&y| pay(y)).collect();
-        block.make(outer, &costs);
-    }
+    let costs: Vec<[i32; 2]> = values.iter().map(|&y| pay(y)).collect();
+    let blocks = costs.chunks(outer.n).map(|costs| Least::new(outer, costs));
+    let blocks: Vec<Least> = blocks.collect();
     let mut paths = vec![Going {
         path: Path {
             symbols: Vec::new(),
@@ -134,13 +83,14 @@ pub fn list(
         row: 0,
     }];
     for r in 0..outer.n {
-        for (i, (going, row)) in paths.iter_mut().zip(rows.iter_mut()).enumerate() {
+        let mut rows = Vec::new();
+        for (i, going) in paths.iter_mut().enumerate() {
             let costs: Vec<[i32; 2]> = blocks
                 .iter()
                 .zip(&going.columns)
-                .map(|(block, &front)| [0, 1].map(|bit| block.least(2 * front + bit, r + 1)))
+                .map(|(block, &front)| [0, 1].map(|bit| block.of(2 * front + bit, r + 1)))
                 .collect();
-            row.make(inner, &costs);
+            rows.push(Least::new(inner, &costs));
             (going.origin, going.row) = (i, 0);
         }
         for s in 0..inner.n {
@@ -148,7 +98,7 @@ pub fn list(
             let symbols = if splits { &[false, true][..] } else { &[false] };
             paths = paths
                 .iter()
-                .flat_map(|going| symbols.iter().map(|&symbol| going.with(rows, s, symbol)))
+                .flat_map(|going| symbols.iter().map(|&symbol| going.with(&rows, s, symbol)))
                 .collect();
             if splits {
                 // They stand by parent and symbol, and a stable sort keeps that where penalties are equal.
@@ -168,19 +118,12 @@ pub fn list(
 /// The same with no layers: a penalty is the least over all words of the frame that begin with the symbols, and at a
 /// marked phase a path stays at place i where i others go before it.
 pub fn list_over_all_words(
-    inner: &Block,
-    outer: &Block,
+    layers: [&Block; 2],
     values: &[i32],
     marked: &[bool],
     most: usize,
 ) -> Vec<Path> {
-    let totals = totals_from(
-        inner,
-        outer,
-        values,
-        &vec![false; marked.len()],
-        marked.len(),
-    );
+    let totals = totals_from(&layers, values, &vec![false; marked.len()], marked.len());
     let penalty = |symbols: &[bool]| {
         let free = marked.len() - symbols.len();
         let front = symbols

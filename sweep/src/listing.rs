@@ -1,12 +1,11 @@
 //! List decode: its answer against the best agreeing one of all final paths, and every buffer.
-use std::cell::RefCell;
 use std::cmp::Reverse;
 
-use crate::decoding::invertible;
-use crate::frame::{order, packed, placed, profile, taken, unpacked, word, Bits};
-use crate::layered::{pay, Block};
-use crate::library::PenaltyOutcome;
-use crate::list::{agrees, checksum, list, list_over_all_words, with_checksum, Path, Tables};
+use crate::block::Block;
+use crate::frame::{bytes, marks_at, ones, order, packed, placed, profile, taken, unpacked, word};
+use crate::layered::pay;
+use crate::library::{PenaltyOutcome, Plan};
+use crate::list::{agrees, checksum, list, list_over_all_words, with_checksum};
 use crate::paper::Kernel;
 use crate::random::Random;
 use crate::recorded::{frame_decode, list_decode};
@@ -20,18 +19,10 @@ const SIZES: [usize; 5] = [24, 64, 128, 200, 256];
 
 pub fn sweep(tally: &mut Tally, kernels: &[Kernel]) {
     let mut random = Random::new(11);
-    let blocks: Vec<Block> = kernels
-        .iter()
-        .map(|kernel| Block {
-            n: 16,
-            words: kernel.words.clone(),
-        })
-        .collect();
     let pairs = Pairs {
         kernels,
         profiles: kernels.iter().map(profile).collect(),
-        blocks,
-        tables: RefCell::default(),
+        blocks: kernels.iter().map(Block::of).collect(),
     };
     checksums(tally);
     analogues(tally, &mut random);
@@ -53,6 +44,7 @@ pub fn sweep(tally: &mut Tally, kernels: &[Kernel]) {
     );
     several(tally, &pairs, &mut random);
     no_kernel(tally, &pairs, &mut random);
+    layers(tally, &pairs, &mut random);
     lists(tally, &pairs, &mut random);
     sizes(tally, &pairs, &mut random);
     out_of_range(tally, &pairs, &mut random);
@@ -60,29 +52,23 @@ pub fn sweep(tally: &mut Tally, kernels: &[Kernel]) {
     requests(tally, &pairs, &mut random);
 }
 
-/// The kernels as the double sum takes them, with their profiles, and as the layers do; and memory for the layers' tables.
+/// The kernels as the double sum takes them, with their profiles, and as the layers do.
 struct Pairs<'a> {
     kernels: &'a [Kernel],
     profiles: Vec<[u32; 16]>,
     blocks: Vec<Block>,
-    tables: RefCell<Tables>,
 }
 
 impl Pairs<'_> {
     /// The word of some symbols.
-    fn word(&self, (inner, outer): (u8, u8), symbols: &Bits) -> Bits {
-        let kernels = self.kernels;
-        word(
-            &kernels[usize::from(inner)],
-            &kernels[usize::from(outer)],
-            symbols,
-        )
+    fn word(&self, plan: Plan, symbols: &[bool]) -> Vec<bool> {
+        word(&plan.layers_of(self.kernels), symbols)
     }
 
     /// The product of the profile numbers of a phase.
-    fn distance(&self, (inner, outer): (u8, u8), phase: usize) -> u32 {
-        self.profiles[usize::from(outer)][phase / 16]
-            * self.profiles[usize::from(inner)][phase % 16]
+    fn distance(&self, plan: Plan, phase: usize) -> u32 {
+        let profiles = plan.layers_of(&self.profiles);
+        profiles[1][phase / 16] * profiles[0][phase % 16]
     }
 }
 
@@ -110,7 +96,7 @@ fn analogues(tally: &mut Tally, random: &mut Random) {
     for (n, w) in [(2, 3), (3, 2), (2, 4), (4, 2), (3, 4), (4, 3), (4, 4)] {
         for most in 1..=8 {
             for marks_of_four in 1..=4 {
-                let (inner, outer) = (invertible(random, n), invertible(random, w));
+                let layers = [n, w].map(|n| Block::invertible(random, n));
                 let limit = [1, 4, 100][random.between(0, 2) as usize];
                 let values: Vec<i32> = (0..n * w)
                     .map(|_| i32::from(random.between(-limit, limit)))
@@ -118,15 +104,8 @@ fn analogues(tally: &mut Tally, random: &mut Random) {
                 let marked: Vec<bool> = (0..n * w)
                     .map(|_| random.between(1, 4) <= marks_of_four)
                     .collect();
-                let want = list_over_all_words(&inner, &outer, &values, &marked, most);
-                let got = list(
-                    &mut Tables::default(),
-                    &inner,
-                    &outer,
-                    &values,
-                    &marked,
-                    most,
-                );
+                let want = list_over_all_words(layers.each_ref(), &values, &marked, most);
+                let got = list(layers.each_ref(), &values, &marked, most);
                 tally.expect(
                     want == got,
                     format_args!(
@@ -140,23 +119,14 @@ fn analogues(tally: &mut Tally, random: &mut Random) {
     tally.group("lists of small frames, layers against all words", cases);
 }
 
-fn bytes(random: &mut Random, count: usize) -> Vec<u8> {
-    (0..count).map(|_| random.word() as u8).collect()
-}
-
 /// A number from low to high, both among them.
 fn number(random: &mut Random, low: usize, high: usize) -> usize {
     random.wide(low as i32, high as i32) as usize
 }
 
-/// The marks of some phases.
-fn marks_at(phases: &[usize]) -> Bits {
-    std::array::from_fn(|i| phases.contains(&i))
-}
-
 /// Any k phases below an end.
-fn marks_below(random: &mut Random, k: usize, end: usize) -> Bits {
-    let mut marks = [false; 256];
+fn marks_below(random: &mut Random, k: usize, end: usize) -> Vec<bool> {
+    let mut marks = vec![false; 256];
     while marks.iter().filter(|&&marked| marked).count() < k {
         marks[number(random, 0, end - 1)] = true;
     }
@@ -166,7 +136,7 @@ fn marks_below(random: &mut Random, k: usize, end: usize) -> Bits {
 /// A mask of k phases: the first of the order, any, or any below some phase, so that those after it are unmarked.
 fn mask(random: &mut Random, order: &[usize], k: usize) -> Vec<u8> {
     if random.once_in(2) {
-        return packed(&marks_at(&order[..k]));
+        return packed(&marks_at(&order[..k], 256));
     }
     let end = if random.once_in(2) {
         256
@@ -181,8 +151,8 @@ const KINDS: [usize; 13] = [0, 1, 2, 3, 4, 5, 6, 7, 8, 9, 10, 11, 12];
 const TIES: [usize; 5] = [5, 6, 8, 11, 12];
 
 /// 256 values of some kind: of a sent word with no noise, with more and more of it, with ties, and of no word.
-fn values(random: &mut Random, kind: usize, sent: &Bits) -> Vec<i8> {
-    sent.map(|one| {
+fn values(random: &mut Random, kind: usize, sent: &[bool]) -> Vec<i8> {
+    let value = |&one: &bool| {
         let y = match kind {
             0 => random.between(1, 127),
             1 => random.between(-20, 100),
@@ -200,13 +170,13 @@ fn values(random: &mut Random, kind: usize, sent: &Bits) -> Vec<i8> {
             _ => 1,
         };
         (if one { -y } else { y }) as i8
-    })
-    .to_vec()
+    };
+    sent.iter().map(value).collect()
 }
 
 #[derive(Clone)]
 struct Request {
-    pair: (u8, u8),
+    plan: Plan,
     list: usize,
     values: Vec<i8>,
     mask: Vec<u8>,
@@ -248,15 +218,9 @@ impl Found {
 
 impl Request {
     /// A request with buffers of the length that it needs, or longer.
-    fn new(
-        random: &mut Random,
-        pair: (u8, u8),
-        list: usize,
-        values: &[i8],
-        mask: &[u8],
-    ) -> Request {
+    fn new(random: &mut Random, plan: Plan, list: usize, values: &[i8], mask: &[u8]) -> Request {
         let mut request = Request {
-            pair,
+            plan,
             list,
             values: values.to_vec(),
             mask: mask.to_vec(),
@@ -271,8 +235,7 @@ impl Request {
     }
 
     fn marked(&self) -> usize {
-        let ones = self.mask.iter().map(|byte| byte.count_ones());
-        ones.sum::<u32>() as usize
+        ones(&self.mask)
     }
 
     /// The refusal that the checks before all decoding give.
@@ -280,7 +243,8 @@ impl Request {
         let k = self.marked();
         let offender = self.values.iter().position(|&y| y == -128);
         let conditions = [
-            (self.pair.0 > 2 || self.pair.1 > 2, 1),
+            (self.plan.layers != 2, 14),
+            (self.plan.no_kernel(), 1),
             (self.list < 1 || self.list > 8, 11),
             (self.values.len() != 256 || self.mask.len() != 32, 2),
             (k == 0 || k % 8 != 0, 3),
@@ -302,36 +266,25 @@ impl Request {
     /// The final paths of a request that passes the checks.
     fn found(&self, pairs: &Pairs) -> Found {
         let values: Vec<i32> = self.values.iter().map(|&y| i32::from(y)).collect();
-        let paths = list(
-            &mut pairs.tables.borrow_mut(),
-            &pairs.blocks[usize::from(self.pair.0)],
-            &pairs.blocks[usize::from(self.pair.1)],
-            &values,
-            &unpacked(&self.mask),
-            self.list,
-        );
-        let answer = |path: Path| (self.payload_of(&path), path.penalty);
-        Found::new(paths.into_iter().map(answer).collect())
-    }
-
-    /// The payload of a path.
-    fn payload_of(&self, path: &Path) -> Vec<u8> {
-        taken(
-            &unpacked(&self.mask),
-            &std::array::from_fn(|i| path.symbols[i]),
-        )
+        let layers = self.plan.layers_of(&pairs.blocks);
+        let marks = unpacked(&self.mask);
+        let paths = list([layers[0], layers[1]], &values, &marks, self.list);
+        let answers = paths
+            .iter()
+            .map(|path| (taken(&marks, &path.symbols), path.penalty));
+        Found::new(answers.collect())
     }
 
     /// What the word of a payload pays.
     fn paid(&self, pairs: &Pairs, payload: &[u8]) -> i32 {
-        let word = pairs.word(self.pair, &placed(&unpacked(&self.mask), payload));
+        let word = pairs.word(self.plan, &placed(&unpacked(&self.mask), payload));
         let paid = self.values.iter().zip(word);
         paid.map(|(&y, bit)| pay(y.into())[usize::from(bit)]).sum()
     }
 
     /// Turns the values to another payload: what was a word of the frame is then that word plus the one of this payload.
     fn turn(&mut self, pairs: &Pairs, payload: &[u8]) {
-        let word = pairs.word(self.pair, &placed(&unpacked(&self.mask), payload));
+        let word = pairs.word(self.plan, &placed(&unpacked(&self.mask), payload));
         for (y, bit) in self.values.iter_mut().zip(word) {
             if bit {
                 *y = -*y;
@@ -343,8 +296,7 @@ impl Request {
     fn call(&self) -> Answered {
         let (mut scratch, mut payload) = (self.scratch.clone(), self.payload.clone());
         let outcome = list_decode(
-            self.pair.0,
-            self.pair.1,
+            self.plan,
             self.list,
             &self.values,
             &self.mask,
@@ -356,8 +308,8 @@ impl Request {
 
     fn wrong(&self, tally: &mut Tally, what: &str, why: std::fmt::Arguments) {
         tally.wrong(format_args!(
-            "{what}, pair {:?}, list {}, {} values, mask {:02x?}, rooms {} and {}: {why}",
-            self.pair,
+            "{what}, {:?}, list {}, {} values, mask {:02x?}, rooms {} and {}: {why}",
+            self.plan,
             self.list,
             self.values.len(),
             self.mask,
@@ -445,8 +397,7 @@ impl Request {
         let (mut scores, mut penalties) = ([0; 256], [0; 256]);
         let mut payload = vec![0; self.marked() / 8];
         let single = frame_decode(
-            self.pair.0,
-            self.pair.1,
+            self.plan,
             &self.values,
             &self.mask,
             &mut scores,
@@ -454,7 +405,7 @@ impl Request {
             &mut payload,
         );
         let same = if agrees(&payload) {
-            got.number == 0 && payload == answered && got.penalty == u32::from(penalties[255])
+            got.number == 0 && payload == answered && got.penalty == penalties[255]
         } else {
             got.number == 13
         };
@@ -538,15 +489,15 @@ fn frames(
     let mut cases = 0;
     for (round, &k) in sizes.iter().enumerate() {
         for turn in 0..72 {
-            let pair = ((turn % 3) as u8, (turn / 3 % 3) as u8);
+            let plan = Plan::number(2, turn);
             let mask = mask(random, &order, k);
             let mut sent = bytes(random, k / 8);
             if !random.once_in(6) {
                 sent = with_checksum(&sent);
             }
-            let word = pairs.word(pair, &placed(&unpacked(&mask), &sent));
+            let word = pairs.word(plan, &placed(&unpacked(&mask), &sent));
             let values = values(random, kinds[(turn + 3 * round) % kinds.len()], &word);
-            let mut request = Request::new(random, pair, 1 + turn / 9, &values, &mask);
+            let mut request = Request::new(random, plan, 1 + turn / 9, &values, &mask);
             if !random.once_in(3) {
                 let answers = request.found(pairs).answers;
                 let from = &answers[number(random, 0, answers.len() - 1)].0;
@@ -601,21 +552,21 @@ const TOLD: [(i16, bool); 4] = [(0, false), (0, true), (1, true), (1, false)];
 fn near(
     random: &mut Random,
     pairs: &Pairs,
-    pair: (u8, u8),
+    plan: Plan,
     list: usize,
     k: usize,
     (most, late): (i16, bool),
 ) -> Request {
     let end = number(random, 160, 255);
     let mut phases: Vec<usize> = (0..end).collect();
-    phases.sort_by_key(|&i| Reverse(pairs.distance(pair, i)));
-    let marks = marks_at(&phases[..k]);
+    phases.sort_by_key(|&i| Reverse(pairs.distance(plan, i)));
+    let marks = marks_at(&phases[..k], 256);
     let mut symbols = two_payloads(random, k).map(|payload| placed(&marks, &payload));
     if late {
-        let phase = (end..256).min_by_key(|&i| pairs.distance(pair, i));
+        let phase = (end..256).min_by_key(|&i| pairs.distance(plan, i));
         symbols[0][phase.unwrap()] = true;
     }
-    let [first, second] = symbols.map(|symbols| pairs.word(pair, &symbols));
+    let [first, second] = symbols.map(|symbols| pairs.word(plan, &symbols));
     let values = first.iter().zip(second).map(|(&one, other)| {
         let size = if one == other {
             90
@@ -625,7 +576,7 @@ fn near(
         (if one { -size } else { size }) as i8
     });
     let values: Vec<i8> = values.collect();
-    Request::new(random, pair, list, &values, &packed(&marks))
+    Request::new(random, plan, list, &values, &packed(&marks))
 }
 
 /// Two payloads with a right checksum whose words the values hardly tell apart, at all pairs with every length of the list.
@@ -633,12 +584,12 @@ fn several(tally: &mut Tally, pairs: &Pairs, random: &mut Random) {
     let mut met = Met::default();
     let turns = 1008;
     for turn in 0..turns {
-        let pair = ((turn % 3) as u8, (turn / 3 % 3) as u8);
+        let plan = Plan::number(2, turn);
         let k = [24, 32, 64, 128][number(random, 0, 3)];
         let request = near(
             random,
             pairs,
-            pair,
+            plan,
             1 + turn / 9 % 8,
             k,
             TOLD[turn / 72 % 4],
@@ -657,12 +608,12 @@ fn several(tally: &mut Tally, pairs: &Pairs, random: &mut Random) {
 
 /// A request that passes the checks: any pair and list, small values, and from 24 phases on.
 fn request(random: &mut Random) -> Request {
-    let pair = (random.between(0, 2) as u8, random.between(0, 2) as u8);
+    let plan = Plan::any(random, 2);
     let values: Vec<i8> = (0..256).map(|_| random.between(-9, 9) as i8).collect();
     let mut marks = [false; 256];
     marks[..8 * number(random, 3, 32)].fill(true);
     let list = number(random, 1, 8);
-    Request::new(random, pair, list, &values, &packed(&marks))
+    Request::new(random, plan, list, &values, &packed(&marks))
 }
 
 /// Compares a request that must be refused.
@@ -679,9 +630,9 @@ fn no_kernel(tally: &mut Tally, pairs: &Pairs, random: &mut Random) {
     let mut cases = 0;
     for kernel in 3..=u8::MAX {
         let other = random.between(0, 2) as u8;
-        for pair in [(kernel, other), (other, kernel)] {
+        for pair in [[kernel, other], [other, kernel]] {
             let mut request = request(random);
-            request.pair = pair;
+            request.plan = Plan::of(&pair);
             compare_refused(tally, "no kernel", pairs, &request);
             request.list = 9;
             request.values[7] = -128;
@@ -694,6 +645,30 @@ fn no_kernel(tally: &mut Tally, pairs: &Pairs, random: &mut Random) {
         }
     }
     tally.group("list decode, kernels 3 to 255 refused", cases);
+}
+
+/// Every count of layers but two, alone, with no kernel, with a list too long, and with every other fault.
+fn layers(tally: &mut Tally, pairs: &Pairs, random: &mut Random) {
+    let mut cases = 0;
+    for layers in (0..=u8::MAX).filter(|&layers| layers != 2) {
+        let mut request = request(random);
+        request.plan.layers = layers;
+        compare_refused(tally, "layers", pairs, &request);
+        let list = request.list;
+        request.list = 9;
+        compare_refused(tally, "layers and a list", pairs, &request);
+        request.list = list;
+        request.plan.kernels = [3, 255, 7];
+        compare_refused(tally, "layers and no kernel", pairs, &request);
+        request.list = 0;
+        request.values.truncate(16);
+        request.mask.truncate(2);
+        request.payload.clear();
+        request.scratch.clear();
+        compare_refused(tally, "layers and more", pairs, &request);
+        cases += 4;
+    }
+    tally.group("list decode, other layers than two refused", cases);
 }
 
 /// Lengths of the list outside 1 to 8, alone and with every later fault.
@@ -797,7 +772,7 @@ fn lengths(tally: &mut Tally, pairs: &Pairs, random: &mut Random) {
 /// Requests with some of their parts spoiled: the first condition that holds, its place, and every buffer.
 fn requests(tally: &mut Tally, pairs: &Pairs, random: &mut Random) {
     let turns = 3000;
-    let mut met = [0u64; 14];
+    let mut met = [0u64; 15];
     for _ in 0..turns {
         let mut request = request(random);
         spoil(random, &mut request);
@@ -821,7 +796,9 @@ fn requests(tally: &mut Tally, pairs: &Pairs, random: &mut Random) {
     tally.group("requests of list decode", turns);
     tally.line(format_args!("of them, by the number answered: {met:?}"), 0);
     tally.expect(
-        [0, 1, 2, 3, 5, 6, 11, 12, 13].iter().all(|&n| met[n] > 0),
+        [0, 1, 2, 3, 5, 6, 11, 12, 13, 14]
+            .iter()
+            .all(|&n| met[n] > 0),
         format_args!("not every condition was met: {met:?}"),
     );
 }
@@ -829,10 +806,13 @@ fn requests(tally: &mut Tally, pairs: &Pairs, random: &mut Random) {
 /// Each part of a request is spoiled now and then.
 fn spoil(random: &mut Random, request: &mut Request) {
     if random.once_in(8) {
-        request.pair.0 = random.word() as u8;
+        request.plan.layers = random.between(0, 4) as u8;
     }
     if random.once_in(8) {
-        request.pair.1 = random.between(0, 4) as u8;
+        request.plan.kernels[0] = random.word() as u8;
+    }
+    if random.once_in(8) {
+        request.plan.kernels[1] = random.between(0, 4) as u8;
     }
     if random.once_in(4) {
         request.list = [0, 9, 10, 257, 1 << 32][number(random, 0, 4)];

@@ -1,10 +1,11 @@
 //! The sweep: the library against code written from the paper. It ends with one line, `sweep: N cases, M wrong`, and
 //! with status 1 where a case is wrong.
 //!
-//! `sweep bench` prints times; `sweep calls JOB KERNEL COUNT` only makes calls, for a count of instructions. KERNEL is a
-//! pair such as `2,2` for a job of frames, and `-` for a job that takes none. `sweep errors` prints how many noisy frames
-//! frame decode and lists of several lengths get wrong.
+//! `sweep bench` prints times; `sweep calls JOB KERNEL COUNT` only makes calls, for a count of instructions. KERNEL is the
+//! kernel of each layer for a job of frames, innermost first, such as `2,2`, and `-` for a job that takes none. `sweep errors`
+//! prints how many noisy frames frame decode and lists of several lengths get wrong.
 mod bench;
+mod block;
 mod decoding;
 mod errors;
 mod follow;
@@ -18,6 +19,7 @@ mod listing;
 mod marks;
 mod paper;
 mod plain;
+mod plan;
 mod product;
 mod random;
 mod recorded;
@@ -55,7 +57,7 @@ fn sweep() -> ExitCode {
     let all: Vec<Kernel> = (0..3).map(Kernel::new).collect();
     let (mut tally, rest) = thread::scope(|scope| {
         let rest = scope.spawn(|| decoding_and_marks(&all));
-        (kernels_undoing_and_lists(&all), rest.join().unwrap())
+        (kernels_and_undoing(&all), rest.join().unwrap())
     });
     tally.add(rest);
     recorded::report(&mut tally);
@@ -66,19 +68,21 @@ fn sweep() -> ExitCode {
     }
 }
 
-fn kernels_undoing_and_lists(all: &[Kernel]) -> Tally {
+fn kernels_and_undoing(all: &[Kernel]) -> Tally {
     let mut tally = Tally::default();
     kernels::sweep(&mut tally, all);
     follow::sweep(&mut tally, all);
     side::sweep(&mut tally, all);
     frames::sweep(&mut tally, all);
-    listing::sweep(&mut tally, all);
+    decoding::sweep_three(&mut tally, all, 1);
     tally
 }
 
 fn decoding_and_marks(all: &[Kernel]) -> Tally {
     let mut tally = Tally::default();
     decoding::sweep(&mut tally, all);
+    decoding::sweep_three(&mut tally, all, 0);
+    listing::sweep(&mut tally, all);
     plain::sweep(&mut tally, all);
     marks::sweep(&mut tally);
     scales::sweep(&mut tally);

@@ -8,6 +8,13 @@ pub const RELATIONS: [[&[usize]; 16]; 3] = [
     [&[0], &[1], &[2], &[3], &[4], &[8], &[6, 9], &[5, 6, 10], &[6], &[10], &[7], &[11], &[12], &[13], &[14], &[15]],
 ];
 
+/// The profile numbers of the three kernels.
+pub const PROFILES: [[u32; 16]; 3] = [
+    [1, 2, 2, 4, 2, 4, 4, 8, 2, 4, 4, 8, 4, 8, 8, 16],
+    [1, 2, 2, 2, 2, 4, 4, 4, 4, 6, 6, 8, 8, 8, 8, 16],
+    [1, 2, 2, 4, 2, 2, 4, 4, 6, 6, 8, 8, 4, 8, 8, 16],
+];
+
 /// Bit i of sixteen packed bits: index 0 is the most significant bit.
 pub fn bit(packed: u16, i: usize) -> bool {
     (packed >> (15 - i)) & 1 == 1

@@ -1,29 +1,21 @@
 //! The plain decoder that the library's is timed beside: every score, every penalty and the payload are the library's.
 use plain_decoder::Decoder;
 
-use crate::frame::{unpacked, word, Bits};
-use crate::library::Outcome;
+use crate::frame::{unpacked, word};
+use crate::library::{Outcome, Plan};
 use crate::paper::Kernel;
 use crate::random::Random;
 use crate::recorded::frame_decode;
 use crate::tally::Tally;
 
-/// What a decoder hands out.
+/// What a decoder hands out. The plain decoder's scores and penalties have 16 bits.
 struct Decoded {
-    scores: [i16; 256],
-    penalties: [u16; 256],
+    scores: [i32; 256],
+    penalties: [u32; 256],
     payload: [u8; 32],
 }
 
 impl Decoded {
-    fn new() -> Decoded {
-        Decoded {
-            scores: [0; 256],
-            penalties: [0; 256],
-            payload: [0; 32],
-        }
-    }
-
     /// The first phase whose score or penalty differs from another's.
     fn first_apart(&self, other: &Decoded) -> Option<usize> {
         (0..256)
@@ -43,7 +35,7 @@ fn mask(random: &mut Random) -> [u8; 32] {
 }
 
 /// Values of some kind: any, small with ties, the two ends, or a sent word with noise.
-fn values(random: &mut Random, kind: usize, sent: &Bits) -> [i8; 256] {
+fn values(random: &mut Random, kind: usize, sent: &[bool]) -> [i8; 256] {
     std::array::from_fn(|i| {
         let y = match kind {
             0 => random.between(-127, 127),
@@ -58,8 +50,7 @@ fn values(random: &mut Random, kind: usize, sent: &Bits) -> [i8; 256] {
 
 /// A request of frame decode.
 struct Request {
-    inner: u8,
-    outer: u8,
+    plan: Plan,
     values: [i8; 256],
     mask: [u8; 32],
 }
@@ -67,14 +58,13 @@ struct Request {
 impl Request {
     /// One of the nine pairs, any mask, and values of the four kinds in turn.
     fn new(random: &mut Random, kernels: &[Kernel], turn: usize) -> Request {
-        let (inner, outer) = (turn % 3, turn / 3 % 3);
+        let plan = Plan::number(2, turn);
         let mask = mask(random);
-        let marks = unpacked(&mask);
-        let symbols: Bits = std::array::from_fn(|i| marks[i] && random.once_in(2));
-        let sent = word(&kernels[inner], &kernels[outer], &symbols);
+        let marks = unpacked(&mask).into_iter();
+        let symbols: Vec<bool> = marks.map(|marked| marked && random.once_in(2)).collect();
+        let sent = word(&plan.layers_of(kernels), &symbols);
         Request {
-            inner: inner as u8,
-            outer: outer as u8,
+            plan,
             values: values(random, turn / 9 % 4, &sent),
             mask,
         }
@@ -82,10 +72,13 @@ impl Request {
 
     /// What the library answers, and hands out.
     fn library(&self) -> (Outcome, Decoded) {
-        let mut decoded = Decoded::new();
+        let mut decoded = Decoded {
+            scores: [0; 256],
+            penalties: [0; 256],
+            payload: [0; 32],
+        };
         let outcome = frame_decode(
-            self.inner,
-            self.outer,
+            self.plan,
             &self.values,
             &self.mask,
             &mut decoded.scores,
@@ -97,16 +90,23 @@ impl Request {
 
     /// The same of the plain decoder.
     fn plain(&self, decoder: &Decoder) -> (Option<usize>, Decoded) {
-        let mut decoded = Decoded::new();
+        let [inner, outer, _] = self.plan.kernels;
+        let (mut scores, mut penalties) = ([0; 256], [0; 256]);
+        let mut payload = [0; 32];
         let bytes = decoder.frame_decode(
-            self.inner,
-            self.outer,
+            inner,
+            outer,
             &self.values,
             &self.mask,
-            &mut decoded.scores,
-            &mut decoded.penalties,
-            &mut decoded.payload,
+            &mut scores,
+            &mut penalties,
+            &mut payload,
         );
+        let decoded = Decoded {
+            scores: scores.map(i32::from),
+            penalties: penalties.map(u32::from),
+            payload,
+        };
         (bytes, decoded)
     }
 }
@@ -127,9 +127,9 @@ pub fn sweep(tally: &mut Tally, kernels: &[Kernel]) {
                 && apart.is_none()
                 && want.payload == got.payload,
             format_args!(
-                "plain decoder, pair ({}, {}): {outcome:?} and {bytes:?}, first phase apart {apart:?}, \
+                "plain decoder, {:?}: {outcome:?} and {bytes:?}, first phase apart {apart:?}, \
                  payloads {:02x?} and {:02x?}",
-                request.inner, request.outer, want.payload, got.payload
+                request.plan, want.payload, got.payload
             ),
         );
     }

@@ -7,7 +7,7 @@ use std::collections::BTreeSet;
 use std::hint::black_box;
 use std::sync::Mutex;
 
-use crate::library::{self, Outcome, PenaltyOutcome, WordOutcome};
+use crate::library::{self, Outcome, PenaltyOutcome, Plan, WordOutcome};
 use crate::tally::Tally;
 
 const HEADER: &str = include_str!(concat!(
@@ -44,14 +44,14 @@ const JOBS: [Job; 13] = [
         "kernel_follow_hadamard",
         &[0, 1, 2, 5, 6],
     ),
-    job("frame encode", "frame_encode", &[0, 1, 2, 3, 4, 5]),
-    job("frame undo", "frame_undo", &[0, 1, 2, 3, 5, 9]),
-    job("frame follow", "frame_follow", &[0, 1, 2, 5, 6]),
-    job("frame decode", "frame_decode", &[0, 1, 2, 3, 5, 6]),
+    job("frame encode", "frame_encode", &[0, 1, 2, 3, 4, 5, 14]),
+    job("frame undo", "frame_undo", &[0, 1, 2, 3, 5, 9, 14]),
+    job("frame follow", "frame_follow", &[0, 1, 2, 5, 6, 14]),
+    job("frame decode", "frame_decode", &[0, 1, 2, 3, 5, 6, 14]),
     job(
         "list decode",
         "list_decode",
-        &[0, 1, 2, 3, 5, 6, 11, 12, 13],
+        &[0, 1, 2, 3, 5, 6, 11, 12, 13, 14],
     ),
     job("payload part", "part_length", &[]),
     job("information mask", "information_mask", &[0, 5, 8]),
@@ -60,7 +60,7 @@ const JOBS: [Job; 13] = [
 ];
 
 /// The highest number that a job can answer.
-const HIGHEST: usize = 13;
+const HIGHEST: usize = 14;
 
 /// The calls of one job.
 #[derive(Clone, Copy)]
@@ -194,6 +194,14 @@ impl Element for u16 {
     }
 }
 
+impl Element for u32 {
+    const BORDER: u32 = 0xb5b5_b5b5;
+
+    fn pattern(self) -> u32 {
+        self
+    }
+}
+
 impl Element for f32 {
     const BORDER: f32 = 181.0;
 
@@ -265,37 +273,35 @@ pub fn kernel_follow_hadamard(
     outcome
 }
 
-pub fn frame_encode(inner: u8, outer: u8, mask: &[u8], payload: &[u8], word: &mut [u8]) -> Outcome {
+pub fn frame_encode(plan: Plan, mask: &[u8], payload: &[u8], word: &mut [u8]) -> Outcome {
     let (mut m, mut p) = (Bordered::new(mask), Bordered::new(payload));
     let mut out = Bordered::new(word);
-    let outcome = library::frame_encode(inner, outer, m.buffer(), p.buffer(), out.buffer());
+    let outcome = library::frame_encode(plan, m.buffer(), p.buffer(), out.buffer());
     let kept = [m.holds(mask), p.holds(payload), out.hand_over(word)];
     record("frame_encode", outcome.number, kept == [true; 3]);
     outcome
 }
 
-pub fn frame_undo(inner: u8, outer: u8, mask: &[u8], word: &[u8], payload: &mut [u8]) -> Outcome {
+pub fn frame_undo(plan: Plan, mask: &[u8], word: &[u8], payload: &mut [u8]) -> Outcome {
     let (mut m, mut w) = (Bordered::new(mask), Bordered::new(word));
     let mut out = Bordered::new(payload);
-    let outcome = library::frame_undo(inner, outer, m.buffer(), w.buffer(), out.buffer());
+    let outcome = library::frame_undo(plan, m.buffer(), w.buffer(), out.buffer());
     let kept = [m.holds(mask), w.holds(word), out.hand_over(payload)];
     record("frame_undo", outcome.number, kept == [true; 3]);
     outcome
 }
 
 pub fn frame_follow(
-    inner: u8,
-    outer: u8,
+    plan: Plan,
     values: &[i8],
     symbols: &[u8],
-    scores: &mut [i16],
-    penalties: &mut [u16],
+    scores: &mut [i32],
+    penalties: &mut [u32],
 ) -> Outcome {
     let (mut y, mut u) = (Bordered::new(values), Bordered::new(symbols));
     let (mut first, mut second) = (Bordered::new(scores), Bordered::new(penalties));
     let outcome = library::frame_follow(
-        inner,
-        outer,
+        plan,
         y.buffer(),
         u.buffer(),
         first.buffer(),
@@ -312,20 +318,18 @@ pub fn frame_follow(
 }
 
 pub fn frame_decode(
-    inner: u8,
-    outer: u8,
+    plan: Plan,
     values: &[i8],
     mask: &[u8],
-    scores: &mut [i16],
-    penalties: &mut [u16],
+    scores: &mut [i32],
+    penalties: &mut [u32],
     payload: &mut [u8],
 ) -> Outcome {
     let (mut y, mut m) = (Bordered::new(values), Bordered::new(mask));
     let (mut first, mut second) = (Bordered::new(scores), Bordered::new(penalties));
     let mut third = Bordered::new(payload);
     let outcome = library::frame_decode(
-        inner,
-        outer,
+        plan,
         y.buffer(),
         m.buffer(),
         first.buffer(),
@@ -344,8 +348,7 @@ pub fn frame_decode(
 }
 
 pub fn list_decode(
-    inner: u8,
-    outer: u8,
+    plan: Plan,
     list: usize,
     values: &[i8],
     mask: &[u8],
@@ -355,8 +358,7 @@ pub fn list_decode(
     let (mut y, mut m) = (Bordered::new(values), Bordered::new(mask));
     let (mut first, mut second) = (Bordered::new(scratch), Bordered::new(payload));
     let outcome = library::list_decode(
-        inner,
-        outer,
+        plan,
         list,
         y.buffer(),
         m.buffer(),
@@ -373,9 +375,9 @@ pub fn list_decode(
     outcome
 }
 
-pub fn part_length(mask: &[u8], length: usize) -> usize {
+pub fn part_length(plan: Plan, mask: &[u8], length: usize) -> usize {
     let mut m = Bordered::new(mask);
-    let part = library::part_length(m.buffer(), length);
+    let part = library::part_length(plan, m.buffer(), length);
     record("part_length", 0, m.holds(mask));
     part
 }

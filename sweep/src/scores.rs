@@ -57,9 +57,23 @@ pub fn score(totals: &[i64], symbols: u16, phase: usize) -> i64 {
     best_score(zero) - best_score(one)
 }
 
-/// The scores of all phases.
+/// The scores of all phases. From the last one on, so that every word is looked at once: those with the symbol and those with the
+/// other one next are together the words with the symbol of the phase before.
 pub fn scores(totals: &[i64], symbols: u16) -> [i64; 16] {
-    std::array::from_fn(|phase| score(totals, symbols, phase))
+    let mut scores = [0; 16];
+    let mut same = -totals[usize::from(symbols)];
+    for phase in (0..16).rev() {
+        let count = 32768 >> phase;
+        let start = (usize::from(symbols) / count ^ 1) * count;
+        let other = best_score(&totals[start..start + count]);
+        scores[phase] = if bit(symbols, phase) {
+            other - same
+        } else {
+            same - other
+        };
+        same = same.max(other);
+    }
+    scores
 }
 
 /// The symbols of the best word, the lowest where several are best.

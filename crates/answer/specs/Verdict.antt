@@ -4,7 +4,7 @@ use mathlib.Core.List.{List, [], _∷_, _++_}
 use Prim.Native.Nat.{ℕ}
 use lib.ListN.{length, drop}
 use Rattle.answer.specs.declared.Answer.{Answer}
-use Rattle.answer.specs.declared.Answer.the-variants.{Done, Word, Penalty, NoKernel, WrongLength, BadMask, WrongPayload, ShortOutput, ValueOutOfRange, NotFinite, WrongSize, FrozenOne, BadScale, WrongListSize, FewMarks, NoAgreeingPath}
+use Rattle.answer.specs.declared.Answer.the-variants.{Done, Word, Penalty, NoKernel, WrongLength, BadMask, WrongPayload, ShortOutput, ValueOutOfRange, NotFinite, WrongSize, FrozenOne, BadScale, WrongListSize, FewMarks, NoAgreeingPath, BadLayers}
 
 -- Accepted and done, accepted with a word or a penalty, or refused with the number and the place of a condition.
 pub data Verdict : Type 0 where
@@ -31,6 +31,7 @@ verdict BadScale = refused 10 0
 verdict WrongListSize = refused 11 0
 verdict FewMarks = refused 12 0
 verdict NoAgreeingPath = refused 13 0
+verdict BadLayers = refused 14 0
 
 -- Its number, 0 if accepted.
 abbrev pub numberOf : Verdict → ℕ

@@ -20,6 +20,7 @@ pub enum Answer {
     WrongListSize,
     FewMarks,
     NoAgreeingPath,
+    BadLayers,
 }
 
 // The number of the condition that refused, 0 if accepted.
@@ -43,6 +44,7 @@ pub fn number(a: Answer) -> u8
         Answer::WrongListSize => 11,
         Answer::FewMarks => 12,
         Answer::NoAgreeingPath => 13,
+        Answer::BadLayers => 14,
     }
 }
 
@@ -74,6 +76,7 @@ pub fn place(a: Answer) -> usize
         Answer::WrongListSize => 0,
         Answer::FewMarks => 0,
         Answer::NoAgreeingPath => 0,
+        Answer::BadLayers => 0,
     }
 }
 
@@ -98,6 +101,7 @@ pub fn word(a: Answer) -> u16
         Answer::WrongListSize => 0,
         Answer::FewMarks => 0,
         Answer::NoAgreeingPath => 0,
+        Answer::BadLayers => 0,
     }
 }
 
@@ -122,5 +126,6 @@ pub fn penalty(a: Answer) -> u32
         Answer::WrongListSize => 0,
         Answer::FewMarks => 0,
         Answer::NoAgreeingPath => 0,
+        Answer::BadLayers => 0,
     }
 }

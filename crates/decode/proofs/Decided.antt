@@ -6,6 +6,7 @@ use Prim.Native.Nat.{ℕ, _/_}
 use lib.Dec.{eqb, ltb}
 use lib.IntN.{ℤ}
 use lib.ListN.{length}
+use borrow.Author.Tests.{eq-eqb}
 use Rattle.base.specs.Bit.{bit}
 use Rattle.base.proofs.Bool.{or-eq-false}
 use Rattle.bits.specs.Packed.{unpack, pack}
@@ -16,34 +17,37 @@ use Rattle.mask.specs.Mask.{marked}
 use Rattle.polar.specs.Code.{channel}
 use Rattle.polar.specs.Follow.{scores, penalties}
 use Rattle.polar.proofs.Follow.{length-decode}
-use Rattle.frame.specs.Frames.{frameCode}
+use Rattle.plan.specs.declared.Plan.{Plan}
+use Rattle.plan.specs.Plan.{badLayers, planCode, symbolCount, byteCount}
+use Rattle.plan.proofs.Layered.{plan-size, bytes-bits}
 use Rattle.decode.specs.Jobs.{frameFollowChecks, frameFollow, frameDecodeChecks, decided, frameDecode}
 
 both : (m w : Bool) → m ≡ false → w ≡ false → (m || w) ≡ false
 both m w em ew = rw (em, ew) refl
 
-module _ (a b : ℕ) (values : List ℤ) (mask : List ℕ) (oldScores : List ℤ) (oldPenalties payload : List ℕ) where
+module _ (p : Plan) (values : List ℤ) (mask : List ℕ) (oldScores : List ℤ) (oldPenalties payload : List ℕ) where
   -- The decoder's symbols, packed.
   abbrev pub symbols : List ℕ
-  symbols = pack 32 (decided a b values mask)
+  symbols = pack (byteCount p) (decided p values mask)
 
-  symbols-are : unpack symbols ≡ decided a b values mask
+  symbols-are : badLayers p ≡ false → unpack symbols ≡ decided p values mask
   unfolding decided
-  symbols-are = unpack-pack 32 (decided a b values mask) (length-decode (frameCode a b) (channel values) (bit (unpack mask)))
+  symbols-are layered = unpack-pack (byteCount p) (decided p values mask) (length-decode (planCode p) (channel values) (bit (unpack mask)) ∙ plan-size p ∙ sym (bytes-bits p layered))
 
-  pub decode-follows : isAccepted ((frameDecode a b values mask oldScores oldPenalties payload) .0) ≡ true
-      → frameFollow a b values symbols oldScores oldPenalties ≡ (done, (frameDecode a b values mask oldScores oldPenalties payload) .1, (frameDecode a b values mask oldScores oldPenalties payload) .2)
+  pub decode-follows : isAccepted ((frameDecode p values mask oldScores oldPenalties payload) .0) ≡ true
+      → frameFollow p values symbols oldScores oldPenalties ≡ (done, (frameDecode p values mask oldScores oldPenalties payload) .1, (frameDecode p values mask oldScores oldPenalties payload) .2)
   unfolding frameDecode frameFollow frameFollowChecks frameDecodeChecks
   decode-follows ok =
-      let C = frameCode a b in
+      let C = planCode p in
       let m = channel values in
-      let u = decided a b values mask in
-      let ds = frameDecodeChecks a b values mask (length oldScores) (length oldPenalties) (length payload) in
+      let u = decided p values mask in
+      let ds = frameDecodeChecks p values mask (length oldScores) (length oldPenalties) (length payload) in
       let n = none-of ds done ok in
-      let h = or-eq-false (not (eqb (length values) 256)) (not (eqb (length mask) 32)) (n .1 .0) in
-      let r = or-eq-false (ltb (length oldScores) 256 || ltb (length oldPenalties) 256) (ltb (length payload) (marked mask / 8)) (n .1 .1 .1 .0) in
-      let fs = frameFollowChecks a b values (length symbols) (length oldScores) (length oldPenalties) in
-      let f : None fs = (n .0, (both (not (eqb (length values) 256)) (not (eqb (length symbols) 32)) (h .0) (ap (λ k. not (eqb k 32)) (length-pack 32 u)), (r .0, (n .1 .1 .1 .1 .0, tt)))) in
+      let h = or-eq-false (not (eqb (length values) (symbolCount p))) (not (eqb (length mask) (byteCount p))) (n .1 .1 .0) in
+      let r = or-eq-false (ltb (length oldScores) (symbolCount p) || ltb (length oldPenalties) (symbolCount p)) (ltb (length payload) (marked mask / 8)) (n .1 .1 .1 .1 .0) in
+      let fs = frameFollowChecks p values (length symbols) (length oldScores) (length oldPenalties) in
+      let long : not (eqb (length symbols) (byteCount p)) ≡ false = ap not (eq-eqb (length symbols) (byteCount p) (length-pack (byteCount p) u)) in
+      let f : None fs = (n .0, (n .1 .0, (both (not (eqb (length values) (symbolCount p))) (not (eqb (length symbols) (byteCount p))) (h .0) long, (r .0, (n .1 .1 .1 .1 .1 .0, tt))))) in
       ap (λ (x : Verdict). (x, after x oldScores (scores C m (unpack symbols)), after x oldPenalties (penalties C m (unpack symbols)))) (settle-none fs done f)
-      ∙ ap (λ v. (done, after done oldScores (scores C m v), after done oldPenalties (penalties C m v))) symbols-are
+      ∙ ap (λ v. (done, after done oldScores (scores C m v), after done oldPenalties (penalties C m v))) (symbols-are (n .0))
       ∙ sym (ap (λ (x : Verdict). (done, after x oldScores (scores C m u), after x oldPenalties (penalties C m u))) (settle-none ds done n))

@@ -1,3 +1,4 @@
+pub mod Outside
 pub mod Accepted
 pub mod Decided
 pub mod Exact

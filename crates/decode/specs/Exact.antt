@@ -11,27 +11,29 @@ use Rattle.payload.specs.Payload.{ones}
 use Rattle.mask.specs.Mask.{marked}
 use Rattle.polar.specs.Code.{channel}
 use Rattle.polar.specs.Exact.{ExactScore, ExactPenalty, IsSign}
-use Rattle.frame.specs.Frames.{frameCode}
+use Rattle.plan.specs.declared.Plan.{Plan}
+use Rattle.plan.specs.Plan.{planCode, symbolCount}
 
--- At every phase of the 256 symbols u, the score and the penalty written there are exact, over all words of the frame.
--- There is room for 256 of each, and what lies past them stays: the buffers held scores₀ and penalties₀ before.
-pub record FrameExact (a b : ℕ) (values : List ℤ) (u : List Bool) (scores₀ scores : List ℤ) (penalties₀ penalties : List ℕ) : Type 0 where
-  pub score-exact : (i : ℕ) → i < 256 → ExactScore (frameCode a b) (channel values) u i (getD scores i (pos 0))
-  pub penalty-exact : (i : ℕ) → i < 256 → ExactPenalty (frameCode a b) (channel values) u i (getD penalties i 0)
-  pub count : length u ≡ 256
-  pub score-room : 256 ≤ length scores
-  pub score-rest : drop 256 scores ≡ drop 256 scores₀
-  pub penalty-room : 256 ≤ length penalties
-  pub penalty-rest : drop 256 penalties ≡ drop 256 penalties₀
+-- At every phase of the symbols u, of which there are as many as the plan says, the score and the penalty written there are exact,
+-- over all words of the frame. There is room for as many of each, and what lies past them stays: the buffers held scores₀ and
+-- penalties₀ before.
+pub record FrameExact (p : Plan) (values : List ℤ) (u : List Bool) (scores₀ scores : List ℤ) (penalties₀ penalties : List ℕ) : Type 0 where
+  pub score-exact : (i : ℕ) → i < symbolCount p → ExactScore (planCode p) (channel values) u i (getD scores i (pos 0))
+  pub penalty-exact : (i : ℕ) → i < symbolCount p → ExactPenalty (planCode p) (channel values) u i (getD penalties i 0)
+  pub count : length u ≡ symbolCount p
+  pub score-room : symbolCount p ≤ length scores
+  pub score-rest : drop (symbolCount p) scores ≡ drop (symbolCount p) scores₀
+  pub penalty-room : symbolCount p ≤ length penalties
+  pub penalty-rest : drop (symbolCount p) penalties ≡ drop (symbolCount p) penalties₀
 
 -- The decoder's symbols u and the payload go by the signs of the scores written. At a marked phase i the symbol is the sign of
 -- score i, and the payload has it as its bit number j, where j marked phases lie before i; at any other phase the symbol is 0.
 -- For a mask of k phases the payload has room for k bits, each of them is that of a marked phase, and what lies past its k/8 bytes
 -- stays: the buffer held payload₀ before.
-pub record BySigns (mask : List ℕ) (u : List Bool) (scores : List ℤ) (payload₀ payload : List ℕ) : Type 0 where
-  pub sign : (i : ℕ) → i < 256 → bit (unpack mask) i ≡ true → IsSign (getD scores i (pos 0)) (bit u i)
-  pub payload-bit : (i : ℕ) → i < 256 → bit (unpack mask) i ≡ true → bit (unpack payload) (ones (take i (unpack mask))) ≡ bit u i
-  pub frozen : (i : ℕ) → i < 256 → bit (unpack mask) i ≡ false → bit u i ≡ false
-  pub phase : (j : ℕ) → j < marked mask → (i : ℕ) × (i < 256) × (bit (unpack mask) i ≡ true) × (ones (take i (unpack mask)) ≡ j)
+pub record BySigns (p : Plan) (mask : List ℕ) (u : List Bool) (scores : List ℤ) (payload₀ payload : List ℕ) : Type 0 where
+  pub sign : (i : ℕ) → i < symbolCount p → bit (unpack mask) i ≡ true → IsSign (getD scores i (pos 0)) (bit u i)
+  pub payload-bit : (i : ℕ) → i < symbolCount p → bit (unpack mask) i ≡ true → bit (unpack payload) (ones (take i (unpack mask))) ≡ bit u i
+  pub frozen : (i : ℕ) → i < symbolCount p → bit (unpack mask) i ≡ false → bit u i ≡ false
+  pub phase : (j : ℕ) → j < marked mask → (i : ℕ) × (i < symbolCount p) × (bit (unpack mask) i ≡ true) × (ones (take i (unpack mask)) ≡ j)
   pub payload-room : marked mask ≤ 8 * length payload
   pub payload-rest : drop (marked mask / 8) payload ≡ drop (marked mask / 8) payload₀

@@ -1,176 +1,168 @@
 // Frame follow and frame decode: the checks, and the run of a frame with its symbols given or decided.
 ghost use mathlib.Core.Path.{_≡_};
+ghost use mathlib.Core.Bool.{false};
+ghost use mathlib.Core.List.{_++_};
+ghost use Prim.Native.Nat.{_*_, _/_, _≤_};
 ghost use lib.Dec.{ltb};
-ghost use lib.ListN.{length};
+ghost use lib.ListN.{length, drop};
+ghost use Rattle.bits.specs.Packed.{unpack, pack};
+ghost use Rattle.payload.specs.Payload;
 ghost use Rattle.folds.specs.Range.{firstOutside};
 ghost use Rattle.answer.specs.Verdict.{verdict, done, settle};
-ghost use Rattle.mask.specs.Mask.{payloadBytes};
+ghost use Rattle.plan.specs.Plan.{badLayers, byteCount};
+ghost use Rattle.grid.specs.Grid.{rowsBits};
+ghost use Rattle.frame_run.specs.Run.{rowCount};
 ghost use Rattle.decode.specs.Jobs.{frameFollowChecks, frameFollow, frameDecodeChecks, frameDecode};
 use answer::Answer;
+use plan::Plan;
 
 // Whether some value lies outside -127 to 127, that is, is -128.
 fn some_outside(values: &[i8]) -> bool
-    requires { ⌜ length (now values) ≡ 256 ⌝ }
-    ensures { λ r. ⌜ r ≡ ltb (firstOutside 127 (now (values .entry))) 256 ⌝ }
+    requires { ⌜ length (now values) ≤ 4096 ⌝ }
+    ensures { λ r. ⌜ r ≡ ltb (firstOutside 127 (now (values .entry))) (length (now (values .entry))) ⌝ }
 {
     let mut found = false;
     let mut i: usize = 0;
-    while i < 256 {
+    while i < values.len() {
         found = found | (values[i] == -128);
         i += 1;
     }
     found
 }
 
-// The lowest index whose value lies outside -127 to 127, or 256. Where there is such a value, which is seldom, it is searched
-// block by block; the last line is then not reached.
+// The lowest index whose value lies outside -127 to 127, or the number of values. Only where there is such a value, which is
+// seldom, are they searched one by one; the last line is then not reached.
 pub fn frame_outside(values: &[i8]) -> usize
-    requires { ⌜ length (now values) ≡ 256 ⌝ }
+    requires { ⌜ length (now values) ≤ 4096 ⌝ }
     ensures { λ r. ⌜ r ≡ firstOutside 127 (now (values .entry)) ⌝ }
 {
     if !some_outside(values) {
-        return 256;
+        return values.len();
     }
-    let mut j: usize = 0;
-    while j < 16 {
-        let block = frame_run::block_values(values, j);
-        let place = folds::first_outside(&block, 127);
-        if place < 16 {
-            return 16 * j + place;
+    let mut i: usize = 0;
+    while i < values.len() {
+        if values[i] == -128 {
+            return i;
         }
-        j += 1;
+        i += 1;
     }
-    256
+    i
 }
 
 // The checks of frame follow, in checking order.
 fn follow_check(
-    inner: u8,
-    outer: u8,
+    plan: Plan,
     values: &[i8],
     symbol_bytes: usize,
     score_room: usize,
     penalty_room: usize,
 ) -> Answer
-    ensures { λ r. ⌜ verdict r ≡ settle (frameFollowChecks inner outer (now (values .entry)) «symbol_bytes» «score_room» «penalty_room») done ⌝ }
+    ensures { λ r. ⌜ verdict r ≡ settle (frameFollowChecks plan (now (values .entry)) «symbol_bytes» «score_room» «penalty_room») done ⌝ }
 {
-    if !kernel::is_pair(inner, outer) {
+    if !plan::has_layers(plan) {
+        return Answer::BadLayers;
+    }
+    if !plan::has_kernels(plan) {
         return Answer::NoKernel;
     }
-    if values.len() != 256 {
+    let n = plan::symbols(plan);
+    if (values.len() != n) | (symbol_bytes != plan::bytes(plan)) {
         return Answer::WrongLength;
     }
-    if symbol_bytes != 32 {
-        return Answer::WrongLength;
-    }
-    if score_room < 256 {
-        return Answer::ShortOutput;
-    }
-    if penalty_room < 256 {
+    if (score_room < n) | (penalty_room < n) {
         return Answer::ShortOutput;
     }
     let place = frame_outside(values);
-    if place < 256 {
+    if place < n {
         return Answer::ValueOutOfRange(place);
     }
     Answer::Done
 }
 
-// Frame follow: the scores and penalties of 256 symbols over 256 channel values.
+// Frame follow: the scores and penalties of the symbols of a frame over its channel values.
 pub fn frame_follow(
-    inner: u8,
-    outer: u8,
+    plan: Plan,
     values: &[i8],
     symbols: &[u8],
-    scores: &mut [i16],
-    penalties: &mut [u16],
+    scores: &mut [i32],
+    penalties: &mut [u32],
 ) -> Answer
-    ensures { λ r. ⌜ frameFollow inner outer (now (values .entry)) (now (symbols .entry)) (now (scores .entry)) (now (penalties .entry)) ≡ (verdict r, now (scores .exit), now (penalties .exit)) ⌝ }
+    ensures { λ r. ⌜ frameFollow plan (now (values .entry)) (now (symbols .entry)) (now (scores .entry)) (now (penalties .entry)) ≡ (verdict r, now (scores .exit), now (penalties .exit)) ⌝ }
 {
-    let answer = follow_check(
-        inner,
-        outer,
-        values,
-        symbols.len(),
-        scores.len(),
-        penalties.len(),
-    );
+    let answer = follow_check(plan, values, symbols.len(), scores.len(), penalties.len());
     if !answer::accepted(answer) {
         return answer;
     }
-    frame_run::frame_run(
-        inner as usize,
-        outer as usize,
-        values,
-        [0u16; 16],
-        grid::rows_of(symbols),
-        scores,
-        penalties,
-    );
+    let n = plan::bytes(plan) / 2;
+    let free = [0u16; 256];
+    let mut given = [0u16; 256];
+    grid::rows_of(symbols, &mut given[..n]);
+    frame_run::frame_run(plan, values, &free, &given, scores, penalties);
     Answer::Done
 }
 
 // The checks of frame decode, in checking order. A mask that is refused takes no byte.
 fn decode_check(
-    inner: u8,
-    outer: u8,
+    plan: Plan,
     values: &[i8],
     mask: &[u8],
-    bytes: usize,
     score_room: usize,
     penalty_room: usize,
     payload_room: usize,
 ) -> Answer
-    requires { ⌜ bytes ≡ payloadBytes (now mask) ⌝ }
-    ensures { λ r. ⌜ verdict r ≡ settle (frameDecodeChecks inner outer (now (values .entry)) (now (mask .entry)) «score_room» «penalty_room» «payload_room») done ⌝ }
+    ensures { λ r. ⌜ verdict r ≡ settle (frameDecodeChecks plan (now (values .entry)) (now (mask .entry)) «score_room» «penalty_room» «payload_room») done ⌝ }
 {
-    if !kernel::is_pair(inner, outer) {
+    if !plan::has_layers(plan) {
+        return Answer::BadLayers;
+    }
+    if !plan::has_kernels(plan) {
         return Answer::NoKernel;
     }
-    if values.len() != 256 {
+    let n = plan::symbols(plan);
+    let mask_bytes = plan::bytes(plan);
+    if (values.len() != n) | (mask.len() != mask_bytes) {
         return Answer::WrongLength;
     }
-    if mask.len() != 32 {
-        return Answer::WrongLength;
-    }
+    let bytes = mask::payload_bytes(mask_bytes, mask);
     if bytes == 0 {
         return Answer::BadMask;
     }
-    if score_room < 256 {
-        return Answer::ShortOutput;
-    }
-    if penalty_room < 256 {
-        return Answer::ShortOutput;
-    }
-    if payload_room < bytes {
+    if (score_room < n) | (penalty_room < n) | (payload_room < bytes) {
         return Answer::ShortOutput;
     }
     let place = frame_outside(values);
-    if place < 256 {
+    if place < n {
         return Answer::ValueOutOfRange(place);
     }
     Answer::Done
 }
 
+// Writes the payload: the symbols of rows at the marked phases.
+fn store_payload(plan: Plan, mask: &[u8], rows: &[u16], payload: &mut [u8])
+    requires { ⌜ (badLayers plan ≡ false) × (length (now mask) ≡ byteCount plan) × (length (now rows) ≡ 256) × (Payload.ones (unpack (now mask)) ≤ 8 * length (now payload)) ⌝ }
+    ensures { λ _. ⌜ now (payload .exit) ≡ pack (Payload.ones (unpack (now (mask .entry))) / 8) (Payload.gather (unpack (now (mask .entry))) (rowsBits (rowCount plan) (now (rows .entry)))) ++ drop (Payload.ones (unpack (now (mask .entry))) / 8) (now (payload .entry)) ⌝ }
+{
+    let bytes = plan::bytes(plan);
+    let mut symbols = [0u8; 512];
+    grid::store_rows(&rows[..bytes / 2], &mut symbols);
+    payload::gather(mask, &symbols[..bytes], payload);
+}
+
 // Frame decode: the scores and penalties of the decoder's own symbols, and its payload.
 pub fn frame_decode(
-    inner: u8,
-    outer: u8,
+    plan: Plan,
     values: &[i8],
     mask: &[u8],
-    scores: &mut [i16],
-    penalties: &mut [u16],
+    scores: &mut [i32],
+    penalties: &mut [u32],
     payload: &mut [u8],
 ) -> Answer
-    ensures { λ r. ⌜ frameDecode inner outer (now (values .entry)) (now (mask .entry)) (now (scores .entry)) (now (penalties .entry)) (now (payload .entry)) ≡ (verdict r, now (scores .exit), now (penalties .exit), now (payload .exit)) ⌝ }
+    ensures { λ r. ⌜ frameDecode plan (now (values .entry)) (now (mask .entry)) (now (scores .entry)) (now (penalties .entry)) (now (payload .entry)) ≡ (verdict r, now (scores .exit), now (penalties .exit), now (payload .exit)) ⌝ }
 {
-    let bytes = mask::payload_bytes(mask);
     let answer = decode_check(
-        inner,
-        outer,
+        plan,
         values,
         mask,
-        bytes,
         scores.len(),
         penalties.len(),
         payload.len(),
@@ -178,18 +170,11 @@ pub fn frame_decode(
     if !answer::accepted(answer) {
         return answer;
     }
-    let none = [0u16; 16];
-    let rows = frame_run::frame_run(
-        inner as usize,
-        outer as usize,
-        values,
-        grid::rows_of(mask),
-        none,
-        scores,
-        penalties,
-    );
-    let mut symbols = [0u8; 32];
-    grid::store_rows(&rows, &mut symbols);
-    payload::gather(mask, &symbols, payload);
+    let n = plan::bytes(plan) / 2;
+    let mut free = [0u16; 256];
+    let given = [0u16; 256];
+    grid::rows_of(mask, &mut free[..n]);
+    let rows = frame_run::frame_run(plan, values, &free, &given, scores, penalties);
+    store_payload(plan, mask, &rows, payload);
     Answer::Done
 }

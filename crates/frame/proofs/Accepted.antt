@@ -7,123 +7,121 @@ use native.Mathlib.Omega.{arith}
 use borrow.Author.Tests.{not-false, eqb-true, ltb-false, lt-ltb, le-ltb}
 use lib.Dec.{ltb}
 use lib.ListN.{length, drop}
-use Rattle.base.specs.Bit.{tabulate}
 use Rattle.base.proofs.Bool.{or-eq-false}
 use Rattle.bits.specs.Packed.{unpack, pack}
-use Rattle.payload.specs.Payload.{ones, spread, gather, frozenOne}
+use Rattle.payload.specs.Payload.{ones, gather, frozenOne}
 use Rattle.bits.proofs.Packed.{length-pack}
 use Rattle.answer.specs.Verdict.{Verdict, done, refused, isAccepted, Check, conditionAt, settle, after}
 use Rattle.answer.proofs.Settle.{None, none-of, settle-none, settle-append, settle-stopped, after-refused}
 use Rattle.mask.specs.Mask.{marked, badMask, payloadBytes}
 use Rattle.mask.proofs.Mask.{bytes-marked, bytes-eighth}
-use Rattle.kernel.proofs.Checks.{pair-lt}
-use Rattle.frame.specs.Frames.{frameCode}
+use Rattle.plan.specs.declared.Plan.{Plan}
+use Rattle.plan.specs.Plan.{badLayers, badKernels, symbolCount, byteCount}
 use Rattle.frame.specs.Jobs.{encodeChecks, encodedFrame, frameEncode, requestChecks, frameSymbols, frozenOf, undoChecks, undonePayload, frameUndo}
 
 -- ---- frame encode
 
 -- Inputs that pass all checks of frame encode.
-pub record EncodeAccepted (a b : ℕ) (mask : List ℕ) (payloadLength room : ℕ) : Type 0 where
-  pub inner : a < 3
-  pub outer : b < 3
-  pub count : length mask ≡ 32
+pub record EncodeAccepted (p : Plan) (mask : List ℕ) (payloadLength room : ℕ) : Type 0 where
+  pub layered : badLayers p ≡ false
+  pub known : badKernels p ≡ false
+  pub count : length mask ≡ byteCount p
   pub good : badMask mask ≡ false
   pub filled : ones (unpack mask) ≡ 8 * payloadLength
-  pub room-enough : 32 ≤ room
+  pub room-enough : byteCount p ≤ room
 
-encode-passes : (a b : ℕ) (mask : List ℕ) (payloadLength room : ℕ) → None (encodeChecks a b mask payloadLength room) → EncodeAccepted a b mask payloadLength room
+encode-passes : (p : Plan) (mask : List ℕ) (payloadLength room : ℕ) → None (encodeChecks p mask payloadLength room) → EncodeAccepted p mask payloadLength room
 unfolding encodeChecks
-encode-passes a b mask payloadLength room n =
-    let p = pair-lt a b (not-false _ (n .0)) in
-    let e = eqb-true (length mask) 32 (not-false _ (n .1 .0)) in
-    let g = n .1 .1 .0 in
-    let s = eqb-true payloadLength (marked mask / 8) (not-false _ (n .1 .1 .1 .0)) in
+encode-passes p mask payloadLength room n =
+    let layered : badLayers p ≡ false = search (n .0, n .1 .0) in
+    let known : badKernels p ≡ false = search (n .0, n .1 .0) in
+    let e = eqb-true (length mask) (byteCount p) (not-false _ (n .1 .1 .0)) in
+    let g = n .1 .1 .1 .0 in
+    let s = eqb-true payloadLength (marked mask / 8) (not-false _ (n .1 .1 .1 .1 .0)) in
     record {
-      inner = p .0;
-      outer = p .1;
+      layered = layered;
+      known = known;
       count = e;
       good = g;
-      filled = sym (bytes-marked mask e g) ∙ ap (λ k. 8 * k) (bytes-eighth mask e g ∙ sym s);
-      room-enough = ltb-false room 32 (n .1 .1 .1 .1 .0);
+      filled = sym (bytes-marked (byteCount p) mask e g) ∙ ap (λ k. 8 * k) (bytes-eighth (byteCount p) mask e g ∙ sym s);
+      room-enough = ltb-false room (byteCount p) (n .1 .1 .1 .1 .1 .0);
     }
 
-pub encode-accepted : (a b : ℕ) (mask : List ℕ) (payloadLength room : ℕ) → isAccepted (settle (encodeChecks a b mask payloadLength room) done) ≡ true
-    → EncodeAccepted a b mask payloadLength room
-encode-accepted a b mask payloadLength room ok = encode-passes a b mask payloadLength room (none-of (encodeChecks a b mask payloadLength room) done ok)
+pub encode-accepted : (p : Plan) (mask : List ℕ) (payloadLength room : ℕ) → isAccepted (settle (encodeChecks p mask payloadLength room) done) ≡ true
+    → EncodeAccepted p mask payloadLength room
+encode-accepted p mask payloadLength room ok = encode-passes p mask payloadLength room (none-of (encodeChecks p mask payloadLength room) done ok)
 
 -- A refused job leaves its buffer.
-pub encode-refused : (a b : ℕ) (mask payload out : List ℕ) (v : Verdict) → v ≡ settle (encodeChecks a b mask (length payload) (length out)) done
-    → isAccepted v ≡ false → frameEncode a b mask payload out ≡ (v, out)
+pub encode-refused : (p : Plan) (mask payload out : List ℕ) (v : Verdict) → v ≡ settle (encodeChecks p mask (length payload) (length out)) done
+    → isAccepted v ≡ false → frameEncode p mask payload out ≡ (v, out)
 unfolding frameEncode
-encode-refused a b mask payload out v e r =
-    ap (λ (x : Verdict). (x, after x out (encodedFrame a b mask payload))) (sym e) ∙ ap (λ (l : List ℕ). (v, l)) (after-refused v out (encodedFrame a b mask payload) r)
+encode-refused p mask payload out v e r =
+    ap (λ (x : Verdict). (x, after x out (encodedFrame p mask payload))) (sym e) ∙ ap (λ (l : List ℕ). (v, l)) (after-refused v out (encodedFrame p mask payload) r)
 
 -- An accepted job leaves the word and what lies past it.
-pub encode-done : (a b : ℕ) (mask payload out last : List ℕ) → isAccepted (settle (encodeChecks a b mask (length payload) (length out)) done) ≡ true
-    → (c : List Bool) → c ≡ tabulate 256 ((frameCode a b) .word (spread (unpack mask) (unpack payload))) → last ≡ pack 32 c ++ drop 32 out
-    → frameEncode a b mask payload out ≡ (done, last)
+pub encode-done : (p : Plan) (mask payload out last : List ℕ) → isAccepted (settle (encodeChecks p mask (length payload) (length out)) done) ≡ true
+    → last ≡ encodedFrame p mask payload ++ drop (byteCount p) out → frameEncode p mask payload out ≡ (done, last)
 unfolding frameEncode encodedFrame
-encode-done a b mask payload out last ok c e l =
-    let cs = encodeChecks a b mask (length payload) (length out) in
-    let new = encodedFrame a b mask payload in
+encode-done p mask payload out last ok l =
+    let cs = encodeChecks p mask (length payload) (length out) in
+    let new = encodedFrame p mask payload in
     ap (λ (x : Verdict). (x, after x out new)) (settle-none cs done (none-of cs done ok))
-    ∙ ap (λ (l : List ℕ). (done, l)) (ap (λ n. new ++ drop n out) (length-pack 32 _) ∙ ap (λ u. pack 32 u ++ drop 32 out) (sym e) ∙ sym l)
+    ∙ ap (λ (l : List ℕ). (done, l)) (ap (λ n. new ++ drop n out) (length-pack (byteCount p) _) ∙ sym l)
 
 -- ---- frame undo
 
 -- Inputs that pass the checks before the word's symbols are looked at.
-pub record RequestAccepted (a b : ℕ) (mask : List ℕ) (wordLength room : ℕ) : Type 0 where
-  pub inner : a < 3
-  pub outer : b < 3
-  pub count : length mask ≡ 32
-  pub long : wordLength ≡ 32
+pub record RequestAccepted (p : Plan) (mask : List ℕ) (wordLength room : ℕ) : Type 0 where
+  pub layered : badLayers p ≡ false
+  pub known : badKernels p ≡ false
+  pub count : length mask ≡ byteCount p
+  pub long : wordLength ≡ byteCount p
   pub good : badMask mask ≡ false
-  pub room-enough : payloadBytes mask ≤ room
+  pub room-enough : payloadBytes (byteCount p) mask ≤ room
 
-request-passes : (a b : ℕ) (mask : List ℕ) (wordLength room : ℕ) → None (requestChecks a b mask wordLength room) → RequestAccepted a b mask wordLength room
+request-passes : (p : Plan) (mask : List ℕ) (wordLength room : ℕ) → None (requestChecks p mask wordLength room) → RequestAccepted p mask wordLength room
 unfolding requestChecks
-request-passes a b mask wordLength room n =
-    let p = pair-lt a b (not-false _ (n .0)) in
-    let h = or-eq-false _ _ (n .1 .0) in
-    let e = eqb-true (length mask) 32 (not-false _ (h .0)) in
-    let g = n .1 .1 .0 in
+request-passes p mask wordLength room n =
+    let h = or-eq-false _ _ (n .1 .1 .0) in
+    let e = eqb-true (length mask) (byteCount p) (not-false _ (h .0)) in
+    let g = n .1 .1 .1 .0 in
     record {
-      inner = p .0;
-      outer = p .1;
+      layered = n .0;
+      known = n .1 .0;
       count = e;
-      long = eqb-true wordLength 32 (not-false _ (h .1));
+      long = eqb-true wordLength (byteCount p) (not-false _ (h .1));
       good = g;
-      room-enough = rw (bytes-eighth mask e g) (ltb-false room (marked mask / 8) (n .1 .1 .1 .0));
+      room-enough = rw (bytes-eighth (byteCount p) mask e g) (ltb-false room (marked mask / 8) (n .1 .1 .1 .1 .0));
     }
 
-pub request-accepted : (a b : ℕ) (mask : List ℕ) (wordLength room : ℕ) → isAccepted (settle (requestChecks a b mask wordLength room) done) ≡ true
-    → RequestAccepted a b mask wordLength room
-request-accepted a b mask wordLength room ok = request-passes a b mask wordLength room (none-of (requestChecks a b mask wordLength room) done ok)
+pub request-accepted : (p : Plan) (mask : List ℕ) (wordLength room : ℕ) → isAccepted (settle (requestChecks p mask wordLength room) done) ≡ true
+    → RequestAccepted p mask wordLength room
+request-accepted p mask wordLength room ok = request-passes p mask wordLength room (none-of (requestChecks p mask wordLength room) done ok)
 
-module _ (a b : ℕ) (mask word out : List ℕ) where
+module _ (p : Plan) (mask word out : List ℕ) where
   request : List Check
-  request = requestChecks a b mask (length word) (length out)
+  request = requestChecks p mask (length word) (length out)
 
   last-check : Check
-  last-check = conditionAt 9 (frozenOf a b mask word) (ltb (frozenOf a b mask word) 256)
+  last-check = conditionAt 9 (frozenOf p mask word) (ltb (frozenOf p mask word) (symbolCount p))
 
   -- A request that is refused leaves its buffer.
-  pub undo-refused : (v : Verdict) → v ≡ settle (requestChecks a b mask (length word) (length out)) done → isAccepted v ≡ false
-      → frameUndo a b mask word out ≡ (v, out)
+  pub undo-refused : (v : Verdict) → v ≡ settle (requestChecks p mask (length word) (length out)) done → isAccepted v ≡ false
+      → frameUndo p mask word out ≡ (v, out)
   unfolding frameUndo undoChecks request last-check
   undo-refused v e r =
-      let all : settle (undoChecks a b mask word (length out)) done ≡ v =
+      let all : settle (undoChecks p mask word (length out)) done ≡ v =
       settle-append request (last-check ∷ []) done ∙ settle-stopped request done (settle (last-check ∷ []) done) refl (ap isAccepted (sym e) ∙ r) ∙ sym e in
-      ap (λ (x : Verdict). (x, after x out (undonePayload a b mask word))) all ∙ ap (λ (l : List ℕ). (v, l)) (after-refused v out (undonePayload a b mask word) r)
+      ap (λ (x : Verdict). (x, after x out (undonePayload p mask word))) all ∙ ap (λ (l : List ℕ). (v, l)) (after-refused v out (undonePayload p mask word) r)
 
-  module _ (ok : isAccepted (settle (requestChecks a b mask (length word) (length out)) done) ≡ true)
-      (u : List Bool) (is-u : u ≡ frameSymbols a b word) (phase : ℕ) (is-phase : phase ≡ frozenOne (unpack mask) u) where
-    place-is : frozenOf a b mask word ≡ phase
+  module _ (ok : isAccepted (settle (requestChecks p mask (length word) (length out)) done) ≡ true)
+      (u : List Bool) (is-u : u ≡ frameSymbols p word) (phase : ℕ) (is-phase : phase ≡ frozenOne (unpack mask) u) where
+    place-is : frozenOf p mask word ≡ phase
     unfolding frozenOf
     place-is = ap (frozenOne (unpack mask)) (sym is-u) ∙ sym is-phase
 
-    verdict-is : (t : Bool) → ltb phase 256 ≡ t
-        → settle (undoChecks a b mask word (length out)) done ≡ elim t [ true ↦ refused 9 phase | false ↦ done ]
+    verdict-is : (t : Bool) → ltb phase (symbolCount p) ≡ t
+        → settle (undoChecks p mask word (length out)) done ≡ elim t [ true ↦ refused 9 phase | false ↦ done ]
     unfolding undoChecks request last-check
     verdict-is t e =
         settle-append request (last-check ∷ []) done
@@ -131,17 +129,17 @@ module _ (a b : ℕ) (mask word out : List ℕ) where
         ∙ rw (place-is, e) refl
 
     -- A symbol 1 at an unmarked phase is refused, and the buffer left.
-    pub undo-frozen : phase < 256 → frameUndo a b mask word out ≡ (refused 9 phase, out)
+    pub undo-frozen : phase < symbolCount p → frameUndo p mask word out ≡ (refused 9 phase, out)
     unfolding frameUndo
-    undo-frozen l = ap (λ (x : Verdict). (x, after x out (undonePayload a b mask word))) (verdict-is true (lt-ltb phase 256 l))
+    undo-frozen l = ap (λ (x : Verdict). (x, after x out (undonePayload p mask word))) (verdict-is true (lt-ltb phase (symbolCount p) l))
 
     -- Any other word leaves its payload and what lies past it.
-    pub undo-done : 256 ≤ phase → (last : List ℕ)
-        → last ≡ pack (ones (unpack mask) / 8) (gather (unpack mask) u) ++ drop (ones (unpack mask) / 8) out → frameUndo a b mask word out ≡ (done, last)
+    pub undo-done : symbolCount p ≤ phase → (last : List ℕ)
+        → last ≡ pack (ones (unpack mask) / 8) (gather (unpack mask) u) ++ drop (ones (unpack mask) / 8) out → frameUndo p mask word out ≡ (done, last)
     unfolding frameUndo undonePayload marked
     undo-done l last e =
-        ap (λ (x : Verdict). (x, after x out (undonePayload a b mask word))) (verdict-is false (le-ltb phase 256 l))
+        ap (λ (x : Verdict). (x, after x out (undonePayload p mask word))) (verdict-is false (le-ltb phase (symbolCount p) l))
         ∙ ap (λ (l : List ℕ). (done, l))
-        (ap (λ n. undonePayload a b mask word ++ drop n out) (length-pack (ones (unpack mask) / 8) _)
+        (ap (λ n. undonePayload p mask word ++ drop n out) (length-pack (ones (unpack mask) / 8) _)
         ∙ ap (λ v. pack (ones (unpack mask) / 8) (gather (unpack mask) v) ++ drop (ones (unpack mask) / 8) out) (sym is-u)
         ∙ sym e)

@@ -10,59 +10,62 @@ use Rattle.payload.specs.Payload.{spread, gather, frozenOne}
 use Rattle.answer.specs.Verdict.{Verdict, done, Check, condition, conditionAt, settle, after}
 use Rattle.mask.specs.Mask.{marked, badMask}
 use Rattle.polar.specs.Code.{symbolsIn}
-use Rattle.kernel.specs.Jobs.{isPair}
-use Rattle.frame.specs.Frames.{frameCode}
+use Rattle.plan.specs.declared.Plan.{Plan}
+use Rattle.plan.specs.Plan.{badLayers, badKernels, planCode, symbolCount, byteCount}
 
--- The checks of frame encode, in checking order: the pair, the length of the mask, the mask, the length of the payload,
--- and the room for the word.
-unfoldable pub encodeChecks : ℕ → ℕ → List ℕ → ℕ → ℕ → List Check
-encodeChecks a b mask payloadLength room =
-    condition 1 (not (isPair a b))
-    ∷ condition 2 (not (eqb (length mask) 32))
+-- The checks of frame encode, in checking order: the plan's layers and kernels, the length of the mask, the mask, the length of
+-- the payload, and the room for the word.
+unfoldable pub encodeChecks : Plan → List ℕ → ℕ → ℕ → List Check
+encodeChecks p mask payloadLength room =
+    condition 14 (badLayers p)
+    ∷ condition 1 (badKernels p)
+    ∷ condition 2 (not (eqb (length mask) (byteCount p)))
     ∷ condition 3 (badMask mask)
     ∷ condition 4 (not (eqb payloadLength (marked mask / 8)))
-    ∷ condition 5 (ltb room 32)
+    ∷ condition 5 (ltb room (byteCount p))
     ∷ []
 
--- The 32 bytes of the word of a payload: its bits fill the marked phases in rising order, all others are 0.
-unfoldable pub encodedFrame : ℕ → ℕ → List ℕ → List ℕ → List ℕ
-encodedFrame a b mask payload = pack 32 (tabulate 256 ((frameCode a b) .word (spread (unpack mask) (unpack payload))))
+-- The bytes of the word of a payload: its bits fill the marked phases in rising order, all others are 0.
+unfoldable pub encodedFrame : Plan → List ℕ → List ℕ → List ℕ
+encodedFrame p mask payload = pack (byteCount p) (tabulate (symbolCount p) ((planCode p) .word (spread (unpack mask) (unpack payload))))
 
--- Frame encode: pair, mask and payload to the word.
-unfoldable pub frameEncode : ℕ → ℕ → List ℕ → List ℕ → List ℕ → Verdict × List ℕ
-frameEncode a b mask payload out =
-    let v = settle (encodeChecks a b mask (length payload) (length out)) done in
-    (v, after v out (encodedFrame a b mask payload))
+-- Frame encode: plan, mask and payload to the word.
+unfoldable pub frameEncode : Plan → List ℕ → List ℕ → List ℕ → Verdict × List ℕ
+frameEncode p mask payload out =
+    let v = settle (encodeChecks p mask (length payload) (length out)) done in
+    (v, after v out (encodedFrame p mask payload))
 
--- The 256 symbols of a word: those whose word it is.
-unfoldable pub frameSymbols : ℕ → ℕ → List ℕ → List Bool
-frameSymbols a b word = symbolsIn (frameCode a b) (unpack word)
+-- The symbols of a word: those whose word it is.
+unfoldable pub frameSymbols : Plan → List ℕ → List Bool
+frameSymbols p word = symbolsIn (planCode p) (unpack word)
 
--- The lowest unmarked phase where the symbols of a word have 1, or 256 where there is none.
-unfoldable pub frozenOf : ℕ → ℕ → List ℕ → List ℕ → ℕ
-frozenOf a b mask word = frozenOne (unpack mask) (frameSymbols a b word)
+-- The lowest unmarked phase where the symbols of a word have 1, or their number where there is none.
+unfoldable pub frozenOf : Plan → List ℕ → List ℕ → ℕ
+frozenOf p mask word = frozenOne (unpack mask) (frameSymbols p word)
 
--- The checks of frame undo, in checking order: the pair, the lengths of mask and word, the mask, the room for the payload,
-unfoldable pub requestChecks : ℕ → ℕ → List ℕ → ℕ → ℕ → List Check
-requestChecks a b mask wordLength room =
-    condition 1 (not (isPair a b))
-    ∷ condition 2 (not (eqb (length mask) 32) || not (eqb wordLength 32))
+-- The checks of frame undo, in checking order: the plan's layers and kernels, the lengths of mask and word, the mask, the room for
+-- the payload,
+unfoldable pub requestChecks : Plan → List ℕ → ℕ → ℕ → List Check
+requestChecks plan mask wordLength room =
+    condition 14 (badLayers plan)
+    ∷ condition 1 (badKernels plan)
+    ∷ condition 2 (not (eqb (length mask) (byteCount plan)) || not (eqb wordLength (byteCount plan)))
     ∷ condition 3 (badMask mask)
     ∷ condition 5 (ltb room (marked mask / 8))
     ∷ []
 
 -- and a symbol 1 at an unmarked phase, the lowest such phase being the place.
-unfoldable pub undoChecks : ℕ → ℕ → List ℕ → List ℕ → ℕ → List Check
-undoChecks a b mask word room =
-    requestChecks a b mask (length word) room
-    ++ (conditionAt 9 (frozenOf a b mask word) (ltb (frozenOf a b mask word) 256) ∷ [])
+unfoldable pub undoChecks : Plan → List ℕ → List ℕ → ℕ → List Check
+undoChecks p mask word room =
+    requestChecks p mask (length word) room
+    ++ (conditionAt 9 (frozenOf p mask word) (ltb (frozenOf p mask word) (symbolCount p)) ∷ [])
 
 -- The payload of a word: its symbols at the marked phases in rising order.
-unfoldable pub undonePayload : ℕ → ℕ → List ℕ → List ℕ → List ℕ
-undonePayload a b mask word = pack (marked mask / 8) (gather (unpack mask) (frameSymbols a b word))
+unfoldable pub undonePayload : Plan → List ℕ → List ℕ → List ℕ
+undonePayload p mask word = pack (marked mask / 8) (gather (unpack mask) (frameSymbols p word))
 
--- Frame undo: pair, mask and word to the payload.
-unfoldable pub frameUndo : ℕ → ℕ → List ℕ → List ℕ → List ℕ → Verdict × List ℕ
-frameUndo a b mask word out =
-    let v = settle (undoChecks a b mask word (length out)) done in
-    (v, after v out (undonePayload a b mask word))
+-- Frame undo: plan, mask and word to the payload.
+unfoldable pub frameUndo : Plan → List ℕ → List ℕ → List ℕ → Verdict × List ℕ
+frameUndo p mask word out =
+    let v = settle (undoChecks p mask word (length out)) done in
+    (v, after v out (undonePayload p mask word))

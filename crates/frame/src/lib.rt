@@ -1,86 +1,137 @@
 // Frame encode and frame undo.
 ghost use mathlib.Core.Path.{_≡_};
-ghost use Prim.Native.Nat.{_*_, _<_};
-ghost use lib.ListN.{length};
-ghost use Rattle.base.specs.Bit.{tabulate};
+ghost use mathlib.Core.Bool.{true, false};
+ghost use mathlib.Core.List.{_++_};
+ghost use Prim.Native.Nat.{_-_, _*_, _^_, _≤_};
+ghost use lib.ListN.{length, drop};
 ghost use Rattle.bits.specs.Packed.{unpack};
 ghost use Rattle.payload.specs.Payload;
-ghost use Rattle.answer.specs.Verdict.{verdict, done, settle};
-ghost use Rattle.mask.specs.Mask.{payloadBytes};
-ghost use Rattle.grid.specs.Grid.{rowsBits};
-ghost use Rattle.frame.specs.Frames.{frameCode};
-ghost use Rattle.frame.specs.Jobs.{encodeChecks, frameEncode, frameSymbols, requestChecks, frameUndo};
+ghost use Rattle.answer.specs.Verdict.{verdict, done, isAccepted, settle};
+ghost use Rattle.plan.specs.Plan.{badLayers, badKernels, byteCount};
+ghost use Rattle.frame.specs.Tables.{layerTable, undoingTable, Tables};
+ghost use Rattle.frame.specs.Jobs.{encodeChecks, encodedFrame, frameEncode, frameSymbols, requestChecks, frameUndo};
 use answer::Answer;
+use plan::Plan;
 
 // The checks of frame encode, in checking order.
-fn encode_check(inner: u8, outer: u8, mask: &[u8], payload_length: usize, room: usize) -> Answer
-    ensures { λ r. ⌜ verdict r ≡ settle (encodeChecks inner outer (now (mask .entry)) «payload_length» room) done ⌝ }
+fn encode_check(plan: Plan, mask: &[u8], payload_length: usize, room: usize) -> Answer
+    ensures { λ r. ⌜ verdict r ≡ settle (encodeChecks plan (now (mask .entry)) «payload_length» room) done ⌝ }
 {
-    if !kernel::is_pair(inner, outer) {
+    if !plan::has_layers(plan) {
+        return Answer::BadLayers;
+    }
+    if !plan::has_kernels(plan) {
         return Answer::NoKernel;
     }
-    if mask.len() != 32 {
+    let n = plan::bytes(plan);
+    if mask.len() != n {
         return Answer::WrongLength;
     }
-    let bytes = mask::payload_bytes(mask);
+    let bytes = mask::payload_bytes(n, mask);
     if bytes == 0 {
         return Answer::BadMask;
     }
     if payload_length != bytes {
         return Answer::WrongPayload;
     }
-    if room < 32 {
+    if room < n {
         return Answer::ShortOutput;
     }
     Answer::Done
 }
 
-// The word of a payload, as sixteen rows.
-fn payload_word(inner: u8, outer: u8, mask: &[u8], payload: &[u8]) -> [u16; 16]
-    requires { ⌜ (inner < 3) × (outer < 3) ⌝ }
-    requires { ⌜ (length (now mask) ≡ 32) × (Payload.ones (unpack (now mask)) ≡ 8 * length (now payload)) ⌝ }
-    ensures { λ r. ⌜ rowsBits r ≡ tabulate 256 ((frameCode inner outer) .word (Payload.spread (unpack (now (mask .entry))) (unpack (now (payload .entry))))) ⌝ }
+// The rows of the kernels of a plan's layers, innermost first.
+fn layer_tables(plan: Plan) -> [[u16; 16]; 3]
+    requires { ⌜ (badLayers plan ≡ false) × (badKernels plan ≡ false) ⌝ }
+    ensures { λ r. ⌜ Tables (plan .layers) (layerTable plan) r ⌝ }
 {
-    let mut symbols = [0u8; 32];
-    spread::spread(mask, payload, &mut symbols);
-    let rows = grid::rows_of(&symbols);
-    grid::frame_rows(kernel::kernel_rows(inner), kernel::kernel_rows(outer), rows)
+    let m = plan.layers as usize;
+    let kernels = plan.kernels;
+    let mut tables = [[0u16; 16]; 3];
+    let mut i: usize = 0;
+    while i < m {
+        tables[i] = kernel::kernel_rows(kernels[i]);
+        i += 1;
+    }
+    tables
+}
+
+// The rows of the inverse kernels, outermost first: with them the same stages undo a word.
+fn undoing_tables(plan: Plan) -> [[u16; 16]; 3]
+    requires { ⌜ (badLayers plan ≡ false) × (badKernels plan ≡ false) ⌝ }
+    ensures { λ r. ⌜ Tables (plan .layers) (undoingTable plan) r ⌝ }
+{
+    let m = plan.layers as usize;
+    let kernels = plan.kernels;
+    let mut tables = [[0u16; 16]; 3];
+    let mut i: usize = 0;
+    while i < m {
+        tables[i] = kernel::inverse_rows(kernels[m - 1 - i]);
+        i += 1;
+    }
+    tables
+}
+
+// Writes the word of a payload. Symbols and rows are lent for the work.
+fn payload_word(
+    plan: Plan,
+    mask: &[u8],
+    payload: &[u8],
+    symbols: &mut [u8],
+    rows: &mut [u16],
+    word: &mut [u8],
+)
+    requires { ⌜ (badLayers plan ≡ false) × (badKernels plan ≡ false) ⌝ }
+    requires { ⌜ (length (now mask) ≡ byteCount plan) × (Payload.ones (unpack (now mask)) ≡ 8 * length (now payload)) ⌝ }
+    requires { ⌜ (length (now symbols) ≡ byteCount plan) × (length (now rows) ≡ 16 ^ (plan .layers - 1)) × (byteCount plan ≤ length (now word)) ⌝ }
+    ensures { λ _. ⌜ now (word .exit) ≡ encodedFrame plan (now (mask .entry)) (now (payload .entry)) ++ drop (byteCount plan) (now (word .entry)) ⌝ }
+{
+    spread::spread(mask, payload, symbols);
+    grid::rows_of(symbols, rows);
+    grid::frame_rows(plan.layers as usize, layer_tables(plan), rows);
+    grid::store_rows(rows, word);
 }
 
 // Frame encode: the word of a payload at the marked phases.
-pub fn frame_encode(inner: u8, outer: u8, mask: &[u8], payload: &[u8], word: &mut [u8]) -> Answer
-    ensures { λ r. ⌜ frameEncode inner outer (now (mask .entry)) (now (payload .entry)) (now (word .entry)) ≡ (verdict r, now (word .exit)) ⌝ }
+pub fn frame_encode(plan: Plan, mask: &[u8], payload: &[u8], word: &mut [u8]) -> Answer
+    ensures { λ r. ⌜ frameEncode plan (now (mask .entry)) (now (payload .entry)) (now (word .entry)) ≡ (verdict r, now (word .exit)) ⌝ }
 {
-    let answer = encode_check(inner, outer, mask, payload.len(), word.len());
+    let answer = encode_check(plan, mask, payload.len(), word.len());
     if !answer::accepted(answer) {
         return answer;
     }
-    let rows = payload_word(inner, outer, mask, payload);
-    grid::store_rows(&rows, word);
+    let n = plan::bytes(plan);
+    let mut symbols = [0u8; 512];
+    let mut rows = [0u16; 256];
+    payload_word(
+        plan,
+        mask,
+        payload,
+        &mut symbols[..n],
+        &mut rows[..n / 2],
+        word,
+    );
     Answer::Done
 }
 
-// The checks of frame undo that do not look at the word's symbols, in checking order. A mask that is refused takes no byte.
-fn request_check(
-    inner: u8,
-    outer: u8,
-    mask: &[u8],
-    bytes: usize,
-    word_length: usize,
-    room: usize,
-) -> Answer
-    requires { ⌜ bytes ≡ payloadBytes (now mask) ⌝ }
-    ensures { λ r. ⌜ verdict r ≡ settle (requestChecks inner outer (now (mask .entry)) «word_length» room) done ⌝ }
+// The checks of frame undo that do not look at the word's symbols, in checking order.
+fn request_check(plan: Plan, mask: &[u8], word_length: usize, room: usize) -> Answer
+    ensures { λ r. ⌜ verdict r ≡ settle (requestChecks plan (now (mask .entry)) «word_length» room) done ⌝ }
 {
-    if !kernel::is_pair(inner, outer) {
+    if !plan::has_layers(plan) {
+        return Answer::BadLayers;
+    }
+    if !plan::has_kernels(plan) {
         return Answer::NoKernel;
     }
-    if mask.len() != 32 {
+    let n = plan::bytes(plan);
+    if mask.len() != n {
         return Answer::WrongLength;
     }
-    if word_length != 32 {
+    if word_length != n {
         return Answer::WrongLength;
     }
+    let bytes = mask::payload_bytes(n, mask);
     if bytes == 0 {
         return Answer::BadMask;
     }
@@ -90,36 +141,56 @@ fn request_check(
     Answer::Done
 }
 
-// The symbols of a word: the inverse kernels with the layers exchanged make them.
-fn word_symbols(inner: u8, outer: u8, word: &[u8]) -> [u8; 32]
-    requires { ⌜ (inner < 3) × (outer < 3) × (length (now word) ≡ 32) ⌝ }
-    ensures { λ r. ⌜ unpack r ≡ frameSymbols inner outer (now (word .entry)) ⌝ }
+// Writes the symbols of a word. Rows are lent for the work.
+fn word_symbols(plan: Plan, word: &[u8], rows: &mut [u16], symbols: &mut [u8])
+    requires { ⌜ (badLayers plan ≡ false) × (badKernels plan ≡ false) ⌝ }
+    requires { ⌜ (length (now word) ≡ byteCount plan) × (length (now rows) ≡ 16 ^ (plan .layers - 1)) × (length (now symbols) ≡ byteCount plan) ⌝ }
+    ensures { λ _. ⌜ unpack (now (symbols .exit)) ≡ frameSymbols plan (now (word .entry)) ⌝ }
 {
-    let rows = grid::rows_of(word);
-    let made = grid::frame_rows(
-        kernel::inverse_rows(outer),
-        kernel::inverse_rows(inner),
-        rows,
-    );
-    let mut symbols = [0u8; 32];
-    grid::store_rows(&made, &mut symbols);
-    symbols
+    grid::rows_of(word, rows);
+    grid::frame_rows(plan.layers as usize, undoing_tables(plan), rows);
+    grid::store_rows(rows, symbols);
+}
+
+// Frame undo of a request that passes the checks before. Rows and symbols are lent for the work.
+fn undo_word(
+    plan: Plan,
+    mask: &[u8],
+    word: &[u8],
+    rows: &mut [u16],
+    symbols: &mut [u8],
+    payload: &mut [u8],
+) -> Answer
+    requires { ⌜ isAccepted (settle (requestChecks plan (now mask) (length (now word)) (length (now payload))) done) ≡ true ⌝ }
+    requires { ⌜ (length (now rows) ≡ 16 ^ (plan .layers - 1)) × (length (now symbols) ≡ byteCount plan) ⌝ }
+    ensures { λ r. ⌜ frameUndo plan (now (mask .entry)) (now (word .entry)) (now (payload .entry)) ≡ (verdict r, now (payload .exit)) ⌝ }
+{
+    word_symbols(plan, word, rows, symbols);
+    let phase = payload::frozen_one(mask, symbols);
+    if phase < plan::symbols(plan) {
+        return Answer::FrozenOne(phase);
+    }
+    payload::gather(mask, symbols, payload);
+    Answer::Done
 }
 
 // Frame undo: the payload of a word, or the lowest unmarked phase where its symbols have 1.
-pub fn frame_undo(inner: u8, outer: u8, mask: &[u8], word: &[u8], payload: &mut [u8]) -> Answer
-    ensures { λ r. ⌜ frameUndo inner outer (now (mask .entry)) (now (word .entry)) (now (payload .entry)) ≡ (verdict r, now (payload .exit)) ⌝ }
+pub fn frame_undo(plan: Plan, mask: &[u8], word: &[u8], payload: &mut [u8]) -> Answer
+    ensures { λ r. ⌜ frameUndo plan (now (mask .entry)) (now (word .entry)) (now (payload .entry)) ≡ (verdict r, now (payload .exit)) ⌝ }
 {
-    let bytes = mask::payload_bytes(mask);
-    let request = request_check(inner, outer, mask, bytes, word.len(), payload.len());
+    let request = request_check(plan, mask, word.len(), payload.len());
     if !answer::accepted(request) {
         return request;
     }
-    let symbols = word_symbols(inner, outer, word);
-    let phase = payload::frozen_one(mask, &symbols);
-    if phase < 256 {
-        return Answer::FrozenOne(phase);
-    }
-    payload::gather(mask, &symbols, payload);
-    Answer::Done
+    let n = plan::bytes(plan);
+    let mut rows = [0u16; 256];
+    let mut symbols = [0u8; 512];
+    undo_word(
+        plan,
+        mask,
+        word,
+        &mut rows[..n / 2],
+        &mut symbols[..n],
+        payload,
+    )
 }

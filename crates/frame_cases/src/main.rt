@@ -1,350 +1,299 @@
-// Frame encode, frame undo, the payload part and the information mask at their edges: every refusal and which of two
-// comes first, the places that are named, and what lies past a written part. Buffers hold 5a before a job.
+// Frame encode, frame undo, the payload part and the information mask at their edges, for one, two and three layers: every refusal and
+// which of two comes first, the places that are named, and what lies past a written part. Buffers hold 5a before a job.
+ghost use Prim.Native.Nat.{_≤_};
 use answer::Answer;
 use libc::STDOUT_FILENO;
+use plan::Plan;
 
-// The last 8 phases are marked.
-const LAST_8: [u8; 32] = [
-    0,
-    0,
-    0,
-    0,
-    0,
-    0,
-    0,
-    0,
-    0,
-    0,
-    0,
-    0,
-    0,
-    0,
-    0,
-    0,
-    0,
-    0,
-    0,
-    0,
-    0,
-    0,
-    0,
-    0,
-    0,
-    0,
-    0,
-    0,
-    0,
-    0,
-    0,
-    255,
+// A case in ten numbers: the layers, three kernels, which mask (see `mask_byte`), the lengths of mask, payload (or word, or lent bytes) and
+// buffer, and the two phases whose symbols are 1; 9999 in place of them stands for a text.
+const ENCODE: [[usize; 10]; 44] = [
+    [2, 0, 1, 3, 6, 32, 12, 36, 9999, 0],
+    [2, 1, 0, 255, 6, 32, 12, 36, 9999, 0],
+    [2, 1, 2, 0, 6, 32, 12, 36, 9999, 0],
+    [2, 2, 2, 0, 6, 32, 12, 36, 9999, 0],
+    [2, 2, 1, 0, 1, 32, 32, 36, 200, 255],
+    [2, 0, 2, 0, 2, 32, 1, 36, 0, 7],
+    [2, 3, 0, 0, 2, 32, 1, 36, 0, 7],
+    [2, 0, 255, 0, 2, 32, 1, 36, 0, 7],
+    [2, 0, 0, 0, 1, 31, 1, 36, 0, 7],
+    [2, 0, 0, 0, 1, 33, 1, 36, 0, 7],
+    [2, 0, 0, 0, 0, 32, 1, 36, 0, 7],
+    [2, 0, 0, 0, 3, 32, 1, 36, 0, 7],
+    [2, 0, 0, 0, 2, 32, 2, 36, 0, 7],
+    [2, 0, 0, 0, 2, 32, 1, 31, 0, 7],
+    [2, 3, 0, 0, 1, 31, 1, 36, 0, 7],
+    [2, 0, 0, 0, 0, 31, 1, 36, 0, 7],
+    [2, 0, 0, 0, 3, 32, 2, 36, 0, 7],
+    [2, 0, 0, 0, 2, 32, 2, 31, 0, 7],
+    [1, 0, 3, 255, 1, 2, 2, 6, 9999, 0],
+    [1, 1, 3, 255, 1, 2, 2, 6, 9999, 0],
+    [1, 2, 3, 255, 1, 2, 2, 6, 9999, 0],
+    [1, 1, 0, 0, 2, 2, 1, 6, 0, 7],
+    [1, 3, 0, 0, 1, 2, 2, 6, 0, 7],
+    [1, 0, 0, 0, 1, 1, 2, 6, 0, 7],
+    [1, 0, 0, 0, 1, 3, 2, 6, 0, 7],
+    [1, 0, 0, 0, 3, 2, 1, 6, 0, 7],
+    [1, 0, 0, 0, 1, 2, 1, 6, 0, 7],
+    [1, 0, 0, 0, 1, 2, 3, 6, 0, 7],
+    [1, 0, 0, 0, 1, 2, 2, 1, 0, 7],
+    [3, 0, 1, 2, 6, 512, 172, 516, 9999, 0],
+    [3, 2, 1, 0, 1, 512, 512, 516, 9999, 0],
+    [3, 1, 2, 0, 2, 512, 1, 516, 0, 7],
+    [3, 3, 0, 0, 2, 512, 1, 516, 0, 7],
+    [3, 0, 3, 0, 2, 512, 1, 516, 0, 7],
+    [3, 0, 0, 3, 2, 512, 1, 516, 0, 7],
+    [3, 0, 0, 0, 1, 511, 1, 516, 0, 7],
+    [3, 0, 0, 0, 1, 513, 1, 516, 0, 7],
+    [3, 0, 0, 0, 6, 512, 171, 516, 0, 7],
+    [3, 0, 0, 0, 6, 512, 173, 516, 0, 7],
+    [3, 0, 0, 0, 2, 512, 1, 511, 0, 7],
+    [0, 0, 0, 0, 2, 32, 1, 36, 0, 7],
+    [4, 0, 0, 0, 2, 512, 1, 516, 0, 7],
+    [255, 0, 0, 0, 2, 32, 1, 36, 0, 7],
+    [4, 3, 3, 3, 2, 32, 1, 36, 0, 7],
 ];
 
-// The last 12, which is no multiple of 8.
-const LAST_12: [u8; 32] = [
-    0,
-    0,
-    0,
-    0,
-    0,
-    0,
-    0,
-    0,
-    0,
-    0,
-    0,
-    0,
-    0,
-    0,
-    0,
-    0,
-    0,
-    0,
-    0,
-    0,
-    0,
-    0,
-    0,
-    0,
-    0,
-    0,
-    0,
-    0,
-    0,
-    0,
-    15,
-    255,
+const UNDO: [[usize; 10]; 43] = [
+    [2, 2, 1, 3, 1, 32, 32, 36, 200, 255],
+    [2, 1, 2, 255, 4, 32, 32, 36, 200, 255],
+    [2, 1, 2, 0, 4, 32, 32, 36, 3, 5],
+    [2, 1, 2, 0, 2, 32, 32, 36, 200, 255],
+    [2, 3, 0, 0, 4, 32, 32, 36, 200, 255],
+    [2, 0, 3, 0, 4, 32, 32, 36, 200, 255],
+    [2, 1, 2, 0, 1, 31, 32, 36, 200, 255],
+    [2, 1, 2, 0, 4, 32, 31, 36, 200, 255],
+    [2, 1, 2, 0, 4, 32, 33, 36, 200, 255],
+    [2, 1, 2, 0, 0, 32, 32, 36, 200, 255],
+    [2, 1, 2, 0, 5, 32, 32, 36, 200, 255],
+    [2, 1, 2, 0, 4, 32, 32, 30, 200, 255],
+    [2, 3, 0, 0, 4, 32, 31, 36, 200, 255],
+    [2, 0, 0, 0, 0, 32, 31, 36, 200, 255],
+    [2, 0, 0, 0, 5, 32, 32, 30, 3, 5],
+    [2, 1, 2, 0, 4, 32, 32, 30, 3, 5],
+    [1, 0, 3, 255, 1, 2, 2, 6, 0, 7],
+    [1, 1, 3, 255, 1, 2, 2, 6, 2, 13],
+    [1, 2, 3, 255, 2, 2, 2, 6, 9, 14],
+    [1, 2, 0, 0, 2, 2, 2, 6, 3, 12],
+    [1, 3, 0, 0, 1, 2, 2, 6, 0, 7],
+    [1, 0, 0, 0, 1, 1, 2, 6, 0, 7],
+    [1, 0, 0, 0, 1, 3, 2, 6, 0, 7],
+    [1, 0, 0, 0, 1, 2, 1, 6, 0, 7],
+    [1, 0, 0, 0, 1, 2, 3, 6, 0, 7],
+    [1, 0, 0, 0, 3, 2, 2, 6, 0, 7],
+    [1, 0, 0, 0, 1, 2, 2, 1, 0, 7],
+    [3, 0, 1, 2, 1, 512, 512, 516, 9, 4095],
+    [3, 1, 2, 0, 4, 512, 512, 516, 200, 4095],
+    [3, 2, 1, 0, 2, 512, 512, 516, 4000, 4095],
+    [3, 2, 0, 1, 2, 512, 512, 516, 4088, 4095],
+    [3, 3, 0, 0, 1, 512, 512, 516, 9, 4095],
+    [3, 0, 3, 0, 1, 512, 512, 516, 9, 4095],
+    [3, 0, 0, 3, 1, 512, 512, 516, 9, 4095],
+    [3, 0, 0, 0, 1, 511, 512, 516, 9, 4095],
+    [3, 0, 0, 0, 1, 513, 512, 516, 9, 4095],
+    [3, 0, 0, 0, 1, 512, 511, 516, 9, 4095],
+    [3, 0, 0, 0, 1, 512, 513, 516, 9, 4095],
+    [3, 0, 0, 0, 1, 512, 512, 511, 9, 4095],
+    [0, 0, 0, 0, 1, 32, 32, 36, 3, 5],
+    [4, 0, 0, 0, 1, 512, 512, 516, 3, 5],
+    [255, 0, 0, 0, 1, 32, 32, 36, 3, 5],
+    [4, 3, 3, 3, 1, 32, 32, 36, 3, 5],
 ];
 
-// All but the first 8.
-const LAST_248: [u8; 32] = [
-    0,
-    255,
-    255,
-    255,
-    255,
-    255,
-    255,
-    255,
-    255,
-    255,
-    255,
-    255,
-    255,
-    255,
-    255,
-    255,
-    255,
-    255,
-    255,
-    255,
-    255,
-    255,
-    255,
-    255,
-    255,
-    255,
-    255,
-    255,
-    255,
-    255,
-    255,
-    255,
+const PART: [[usize; 10]; 28] = [
+    [2, 0, 0, 3, 2, 32, 32, 0, 0, 0],
+    [2, 0, 0, 0, 1, 32, 32, 0, 0, 0],
+    [2, 0, 0, 0, 0, 32, 32, 0, 0, 0],
+    [2, 0, 0, 0, 3, 32, 32, 0, 0, 0],
+    [2, 0, 0, 0, 1, 31, 32, 0, 0, 0],
+    [2, 0, 0, 0, 1, 32, 31, 0, 0, 0],
+    [2, 0, 0, 0, 1, 33, 32, 0, 0, 0],
+    [2, 0, 0, 0, 1, 32, 33, 0, 0, 0],
+    [1, 2, 3, 255, 1, 2, 2, 0, 0, 0],
+    [1, 2, 0, 0, 2, 2, 2, 0, 0, 0],
+    [1, 2, 0, 0, 1, 1, 2, 0, 0, 0],
+    [1, 2, 0, 0, 1, 3, 2, 0, 0, 0],
+    [1, 2, 0, 0, 1, 2, 1, 0, 0, 0],
+    [1, 2, 0, 0, 1, 2, 3, 0, 0, 0],
+    [3, 0, 1, 2, 6, 512, 512, 0, 0, 0],
+    [3, 0, 1, 2, 1, 512, 512, 0, 0, 0],
+    [3, 0, 1, 2, 1, 511, 512, 0, 0, 0],
+    [3, 0, 1, 2, 1, 513, 512, 0, 0, 0],
+    [3, 0, 1, 2, 1, 512, 511, 0, 0, 0],
+    [3, 0, 1, 2, 1, 512, 513, 0, 0, 0],
+    [0, 0, 0, 0, 1, 32, 32, 0, 0, 0],
+    [4, 0, 0, 0, 1, 512, 512, 0, 0, 0],
+    [255, 0, 0, 0, 1, 32, 32, 0, 0, 0],
+    [3, 3, 0, 0, 1, 512, 512, 0, 0, 0],
+    [3, 0, 3, 0, 1, 512, 512, 0, 0, 0],
+    [3, 0, 0, 3, 1, 512, 512, 0, 0, 0],
+    [2, 0, 3, 0, 1, 32, 32, 0, 0, 0],
+    [1, 3, 0, 0, 1, 2, 2, 0, 0, 0],
 ];
 
-// All but the first 4, which is no multiple of 8.
-const LAST_252: [u8; 32] = [
-    15,
-    255,
-    255,
-    255,
-    255,
-    255,
-    255,
-    255,
-    255,
-    255,
-    255,
-    255,
-    255,
-    255,
-    255,
-    255,
-    255,
-    255,
-    255,
-    255,
-    255,
-    255,
-    255,
-    255,
-    255,
-    255,
-    255,
-    255,
-    255,
-    255,
-    255,
-    255,
-];
+const TEXT: [u8; 12] = [78, 111, 115, 112, 114, 105, 100, 100, 97, 0, 255, 129];
 
-// Every third phase or so, 96 in all.
-const MIXED: [u8; 32] = [
-    36,
-    146,
-    73,
-    36,
-    146,
-    73,
-    36,
-    146,
-    73,
-    36,
-    146,
-    73,
-    36,
-    146,
-    73,
-    36,
-    146,
-    73,
-    36,
-    146,
-    73,
-    36,
-    146,
-    73,
-    36,
-    146,
-    73,
-    36,
-    146,
-    73,
-    255,
-    255,
-];
+const POWERS: [u8; 8] = [128, 64, 32, 16, 8, 4, 2, 1];
 
-// A payload of 12 bytes.
-const PAYLOAD: [u8; 12] = [
-    0x4e,
-    0x6f,
-    0x73,
-    0x70,
-    0x72,
-    0x69,
-    0x64,
-    0x64,
-    0x61,
-    0x00,
-    0xff,
-    0x81,
-];
+const THIRDS: [u8; 3] = [36, 146, 73];
 
-// Symbols 1 at phases 3 and 5 only.
-const FIRST_SYMBOLS: [u8; 32] = [
-    20,
-    0,
-    0,
-    0,
-    0,
-    0,
-    0,
-    0,
-    0,
-    0,
-    0,
-    0,
-    0,
-    0,
-    0,
-    0,
-    0,
-    0,
-    0,
-    0,
-    0,
-    0,
-    0,
-    0,
-    0,
-    0,
-    0,
-    0,
-    0,
-    0,
-    0,
-    0,
-];
+// A number of the tables as a byte.
+fn small(x: usize) -> u8 {
+    if x < 256 { x as u8 } else { 255 }
+}
 
-// Symbols 1 at phases 200 and 255 only.
-const LATE_SYMBOLS: [u8; 32] = [
-    0,
-    0,
-    0,
-    0,
-    0,
-    0,
-    0,
-    0,
-    0,
-    0,
-    0,
-    0,
-    0,
-    0,
-    0,
-    0,
-    0,
-    0,
-    0,
-    0,
-    0,
-    0,
-    0,
-    0,
-    0,
-    128,
-    0,
-    0,
-    0,
-    0,
-    0,
-    1,
-];
+fn at_most(limit: usize, n: usize) -> usize
+    ensures { λ r. ⌜ r ≤ limit ⌝ }
+{
+    if n < limit { n } else { limit }
+}
+
+// The first n bytes, or all where there are fewer.
+fn front<'a>(s: &'a [u8], n: usize) -> &'a [u8] {
+    let k = at_most(s.len(), n);
+    &s[..k]
+}
+
+fn plan_of(c: [usize; 10]) -> Plan {
+    Plan {
+        layers: small(c[0]),
+        kernels: [small(c[1]), small(c[2]), small(c[3])],
+    }
+}
+
+// Byte i of the mask of a kind: it marks 0 none, 1 all, 2 the last 8 phases, 3 the last 12, 4 all but the first 8, 5 all but the first 4,
+// 6 every third phase or so. `left` bytes come after it.
+fn mask_byte(kind: usize, i: usize, left: usize) -> u8 {
+    if kind == 1 {
+        return 255;
+    }
+    if kind == 2 || kind == 3 {
+        if left == 0 {
+            return 255;
+        }
+        return if kind == 3 && left == 1 { 15 } else { 0 };
+    }
+    if kind == 4 || kind == 5 {
+        if i > 0 {
+            return 255;
+        }
+        return if kind == 5 { 15 } else { 0 };
+    }
+    if kind == 0 {
+        return 0;
+    }
+    if left < 2 { 255 } else { THIRDS[i % 3] }
+}
+
+// The mask of a kind and of n bytes.
+fn mask_of(kind: usize, n: usize) -> [u8; 513] {
+    let mut out = [0u8; 513];
+    let k = at_most(513, n);
+    let mut i: usize = 0;
+    while i < k {
+        out[i] = mask_byte(kind, i, k - i - 1);
+        i += 1;
+    }
+    out
+}
+
+// The text, again and again.
+fn text_of() -> [u8; 513] {
+    let mut out = [0u8; 513];
+    let mut i: usize = 0;
+    while i < 513 {
+        out[i] = TEXT[i % 12];
+        i += 1;
+    }
+    out
+}
+
+// Bits 1 at two places, or the text.
+fn bits_of(a: usize, b: usize) -> [u8; 513] {
+    if a == 9999 {
+        return text_of();
+    }
+    let mut out = [0u8; 513];
+    let p = at_most(4095, a);
+    let q = at_most(4095, b);
+    out[p / 8] = POWERS[p % 8];
+    out[q / 8] = out[q / 8] ^ POWERS[q % 8];
+    out
+}
+
+// The word of symbols that are 1 at two phases.
+fn word_of(plan: Plan, a: usize, b: usize) -> [u8; 513] {
+    let all = [255u8; 513];
+    let symbols = bits_of(a, b);
+    let mut word = [0u8; 513];
+    let n = plan::bytes(plan);
+    frame::frame_encode(plan, front(&all, n), front(&symbols, n), &mut word);
+    word
+}
+
+// The numbers of a case.
+fn say_case(label: &[u8], c: [usize; 10]) {
+    io::write_all(STDOUT_FILENO, label);
+    let mut i: usize = 0;
+    while i < 10 {
+        io::write_all(STDOUT_FILENO, b" ");
+        io::print_decimal(STDOUT_FILENO, c[i] as u64);
+        i += 1;
+    }
+}
 
 // An answer, and the buffer where it is accepted, or whether it was kept.
-fn say(label: &[u8], a: Answer, buffer: &[u8], before: &[u8]) {
+fn say(label: &[u8], a: Answer, buffer: &[u8]) {
+    let before = [0x5au8; 516];
     report::say_answer(label, a);
     if answer::accepted(a) {
         io::write_all(STDOUT_FILENO, b", ");
         report::say_bytes(buffer);
         io::write_all(STDOUT_FILENO, b"\n");
     } else {
-        report::say_kept(report::same_from(buffer, before, 0));
+        report::say_kept(report::same_from(buffer, front(&before, buffer.len()), 0));
     }
 }
 
-// Frame encode into a buffer of 36.
-fn encode(label: &[u8], inner: u8, outer: u8, mask: &[u8], payload: &[u8]) {
-    let before = [0x5au8; 36];
-    let mut word = [0x5au8; 36];
-    let a = frame::frame_encode(inner, outer, mask, payload, &mut word);
-    say(label, a, &word, &before);
+fn encode_into(c: [usize; 10], word: &mut [u8]) {
+    let mask = mask_of(c[4], c[5]);
+    let payload = bits_of(c[8], c[9]);
+    let a = frame::frame_encode(plan_of(c), front(&mask, c[5]), front(&payload, c[6]), word);
+    say_case(b"encode", c);
+    say(b"", a, word);
 }
 
-// Into a buffer of 31.
-fn encode_short(label: &[u8], inner: u8, outer: u8, mask: &[u8], payload: &[u8]) {
-    let before = [0x5au8; 31];
-    let mut word = [0x5au8; 31];
-    let a = frame::frame_encode(inner, outer, mask, payload, &mut word);
-    say(label, a, &word, &before);
+fn encode_case(c: [usize; 10]) {
+    let mut word = [0x5au8; 516];
+    let room = at_most(516, c[7]);
+    encode_into(c, &mut word[..room]);
 }
 
-// Frame undo into a buffer of 36.
-fn undo(label: &[u8], inner: u8, outer: u8, mask: &[u8], word: &[u8]) {
-    let before = [0x5au8; 36];
-    let mut payload = [0x5au8; 36];
-    let a = frame::frame_undo(inner, outer, mask, word, &mut payload);
-    say(label, a, &payload, &before);
+fn undo_into(c: [usize; 10], word: &[u8], payload: &mut [u8]) {
+    let mask = mask_of(c[4], c[5]);
+    let a = frame::frame_undo(plan_of(c), front(&mask, c[5]), front(word, c[6]), payload);
+    say_case(b"undo", c);
+    say(b"", a, payload);
 }
 
-// Into a buffer of 30.
-fn undo_short(label: &[u8], inner: u8, outer: u8, mask: &[u8], word: &[u8]) {
-    let before = [0x5au8; 30];
-    let mut payload = [0x5au8; 30];
-    let a = frame::frame_undo(inner, outer, mask, word, &mut payload);
-    say(label, a, &payload, &before);
-}
-
-// The word of 256 symbols.
-fn word_of(inner: u8, outer: u8, symbols: &[u8]) -> [u8; 32] {
-    let all = [0xffu8; 32];
-    let mut word = [0u8; 32];
-    frame::frame_encode(inner, outer, &all, symbols, &mut word);
-    word
-}
-
-// Information mask into a buffer of 36.
-fn information(label: &[u8], p: usize) {
-    let before = [0x5au8; 36];
-    let mut mask = [0x5au8; 36];
-    let a = order::information_mask(p, &mut mask);
-    say(label, a, &mask, &before);
-}
-
-// Into a buffer of 31.
-fn information_short(label: &[u8], p: usize) {
-    let before = [0x5au8; 31];
-    let mut mask = [0x5au8; 31];
-    let a = order::information_mask(p, &mut mask);
-    say(label, a, &mask, &before);
+fn undo_case(c: [usize; 10], word: [u8; 513]) {
+    let mut payload = [0x5au8; 516];
+    let room = at_most(516, c[7]);
+    undo_into(c, &word, &mut payload[..room]);
 }
 
 // The payload part: its length, twice, and its bytes.
-fn part(label: &[u8], mask: &[u8], bytes: &[u8]) {
-    let found = mask::payload_part(mask, bytes);
-    io::write_all(STDOUT_FILENO, label);
+fn part_case(c: [usize; 10]) {
+    let mask = mask_of(c[4], c[5]);
+    let bytes = [0xa5u8; 513];
+    let lent = front(&bytes, c[6]);
+    say_case(b"part", c);
     io::write_all(STDOUT_FILENO, b": ");
-    io::print_decimal(STDOUT_FILENO, mask::part_length(mask, bytes.len()) as u64);
+    io::print_decimal(
+        STDOUT_FILENO,
+        part::part_length(plan_of(c), front(&mask, c[5]), lent.len()) as u64,
+    );
+    let found = part::payload_part(plan_of(c), front(&mask, c[5]), lent);
     io::write_all(STDOUT_FILENO, b" ");
     io::print_decimal(STDOUT_FILENO, found.len() as u64);
     io::write_all(STDOUT_FILENO, b", ");
@@ -352,154 +301,90 @@ fn part(label: &[u8], mask: &[u8], bytes: &[u8]) {
     io::write_all(STDOUT_FILENO, b"\n");
 }
 
-// Words of unequal pairs, and their payloads again.
-fn words() {
-    let mask = MIXED;
-    let payload = PAYLOAD;
-    encode(b"encode (0, 1)", 0, 1, &mask, &payload);
-    encode(b"encode (1, 0)", 1, 0, &mask, &payload);
-    encode(b"encode (1, 2)", 1, 2, &mask, &payload);
-    encode(b"encode (2, 2)", 2, 2, &mask, &payload);
-    let all = [0xffu8; 32];
-    let symbols = LATE_SYMBOLS;
-    encode(b"encode (2, 1), k 256", 2, 1, &all, &symbols);
-    let word = word_of(2, 1, &symbols);
-    undo(b"undo (2, 1), k 256", 2, 1, &all, &word);
+fn encode_cases() {
+    let mut i: usize = 0;
+    while i < 44 {
+        encode_case(ENCODE[i]);
+        i += 1;
+    }
 }
 
-fn encode_refusals() {
-    let mask = LAST_8;
-    let one = [0x81u8; 1];
-    encode(b"encode, k 8", 0, 2, &mask, &one);
-    encode(b"encode, inner kernel 3", 3, 0, &mask, &one);
-    encode(b"encode, outer kernel 255", 0, 255, &mask, &one);
-    let few = [0xffu8; 31];
-    encode(b"encode, mask of 31", 0, 0, &few, &one);
-    let many = [0xffu8; 33];
-    encode(b"encode, mask of 33", 0, 0, &many, &one);
+// The last word was made with the layers exchanged.
+fn undo_cases() {
+    let mut i: usize = 0;
+    while i < 43 {
+        let c = UNDO[i];
+        undo_case(c, word_of(plan_of(c), c[8], c[9]));
+        i += 1;
+    }
+    undo_case(
+        [2, 2, 1, 0, 2, 32, 32, 36, 200, 255],
+        word_of(
+            Plan {
+                layers: 2,
+                kernels: [1, 2, 0],
+            },
+            200,
+            255,
+        ),
+    );
 }
 
-fn encode_masks() {
-    let mask = LAST_8;
-    let one = [0x81u8; 1];
-    let none = [0u8; 32];
-    encode(b"encode, k 0", 0, 0, &none, &one);
-    let odd = LAST_12;
-    encode(b"encode, k 12", 0, 0, &odd, &one);
-    let two = [0x81u8; 2];
-    encode(b"encode, payload of 2", 0, 0, &mask, &two);
-    encode_short(b"encode, room 31", 0, 0, &mask, &one);
+fn part_cases() {
+    let mut i: usize = 0;
+    while i < 28 {
+        part_case(PART[i]);
+        i += 1;
+    }
 }
 
-// Two conditions at once: the first in checking order counts.
-fn encode_two_conditions() {
-    let one = [0x81u8; 1];
-    let two = [0x81u8; 2];
-    let few = [0xffu8; 31];
-    encode(b"encode, 1 and 2", 3, 0, &few, &one);
-    let few_none = [0u8; 31];
-    encode(b"encode, 2 and 3", 0, 0, &few_none, &one);
-    let odd = LAST_12;
-    encode(b"encode, 3 and 4", 0, 0, &odd, &two);
-    let mask = LAST_8;
-    encode_short(b"encode, 4 and 5", 0, 0, &mask, &two);
+// Frames of one layer are kernels: the word of the symbols 4e6f and the symbols of the word 4e6f, by the kernel jobs and by frame undo.
+// Frame encode of the same symbols is among the cases.
+fn kernel_cases() {
+    let mut k: u8 = 0;
+    while k < 3 {
+        io::write_all(STDOUT_FILENO, b"kernel: ");
+        io::print_decimal(
+            STDOUT_FILENO,
+            answer::word(kernel::kernel_encode(k, 0x4e6f)) as u64,
+        );
+        io::write_all(STDOUT_FILENO, b" ");
+        io::print_decimal(
+            STDOUT_FILENO,
+            answer::word(kernel::kernel_undo(k, 0x4e6f)) as u64,
+        );
+        io::write_all(STDOUT_FILENO, b"\n");
+        undo_case([1, k as usize, 3, 255, 1, 2, 2, 6, 9999, 0], text_of());
+        k += 1;
+    }
 }
 
-// The word of symbols 1 at phases 3 and 5 only.
-fn early_word() -> [u8; 32] {
-    let symbols = FIRST_SYMBOLS;
-    word_of(1, 2, &symbols)
+// Information mask into a buffer.
+fn information_into(label: &[u8], p: usize, mask: &mut [u8]) {
+    let a = order::information_mask(p, mask);
+    say(label, a, mask);
 }
 
-// The word of symbols 1 at phases 200 and 255 only.
-fn late_word() -> [u8; 32] {
-    let symbols = LATE_SYMBOLS;
-    word_of(1, 2, &symbols)
-}
-
-fn undo_frozen() {
-    let mask = LAST_248;
-    let early = early_word();
-    let late = late_word();
-    undo(b"undo, k 248", 1, 2, &mask, &late);
-    undo(b"undo, 1 at unmarked 3 and 5", 1, 2, &mask, &early);
-    let last = LAST_8;
-    undo(b"undo, 1 at unmarked 200", 1, 2, &last, &late);
-    undo(b"undo, layers exchanged", 2, 1, &last, &late);
-}
-
-fn undo_refusals() {
-    let mask = LAST_248;
-    let late = late_word();
-    undo(b"undo, inner kernel 3", 3, 0, &mask, &late);
-    undo(b"undo, outer kernel 3", 0, 3, &mask, &late);
-    let few = [0xffu8; 31];
-    undo(b"undo, mask of 31", 1, 2, &few, &late);
-    undo(b"undo, word of 31", 1, 2, &mask, &few);
-    let many = [0xffu8; 33];
-    undo(b"undo, word of 33", 1, 2, &mask, &many);
-}
-
-fn undo_masks() {
-    let late = late_word();
-    let none = [0u8; 32];
-    undo(b"undo, k 0", 1, 2, &none, &late);
-    let odd = LAST_252;
-    undo(b"undo, k 252", 1, 2, &odd, &late);
-    let mask = LAST_248;
-    undo_short(b"undo, room 30", 1, 2, &mask, &late);
-}
-
-// The same of undo.
-fn undo_two_conditions() {
-    let mask = LAST_248;
-    let few = [0xffu8; 31];
-    undo(b"undo, 1 and 2", 3, 0, &mask, &few);
-    let none = [0u8; 32];
-    undo(b"undo, 2 and 3", 0, 0, &none, &few);
-    let odd = LAST_252;
-    let early = early_word();
-    undo_short(b"undo, 3 and 5", 0, 0, &odd, &early);
-    undo_short(b"undo, 5 and 9", 1, 2, &mask, &early);
+fn information(label: &[u8], p: usize, room: usize) {
+    let mut mask = [0x5au8; 36];
+    let n = at_most(36, room);
+    information_into(label, p, &mut mask[..n]);
 }
 
 fn masks() {
-    information(b"information mask, p 1", 1);
-    information(b"information mask, p 2", 2);
-    information(b"information mask, p 32", 32);
-    information(b"information mask, p 0", 0);
-    information(b"information mask, p 33", 33);
-    information_short(b"information mask, room 31", 1);
-    information_short(b"information mask, 5 and 8", 33);
-}
-
-fn parts() {
-    let bytes = [0xa5u8; 32];
-    let mask = LAST_8;
-    part(b"part, k 8", &mask, &bytes);
-    let all = [0xffu8; 32];
-    part(b"part, k 256", &all, &bytes);
-    let none = [0u8; 32];
-    part(b"part, k 0", &none, &bytes);
-    let odd = LAST_12;
-    part(b"part, k 12", &odd, &bytes);
-    let few = [0xffu8; 31];
-    part(b"part, mask of 31", &few, &bytes);
-    part(b"part, 31 bytes", &all, &few);
-    let many = [0xffu8; 33];
-    part(b"part, mask of 33", &many, &bytes);
-    part(b"part, 33 bytes", &all, &many);
+    information(b"information mask, p 1", 1, 36);
+    information(b"information mask, p 2", 2, 36);
+    information(b"information mask, p 32", 32, 36);
+    information(b"information mask, p 0", 0, 36);
+    information(b"information mask, p 33", 33, 36);
+    information(b"information mask, room 31", 1, 31);
+    information(b"information mask, 5 and 8", 33, 31);
 }
 
 fn main() {
-    words();
-    encode_refusals();
-    encode_masks();
-    encode_two_conditions();
-    undo_frozen();
-    undo_refusals();
-    undo_masks();
-    undo_two_conditions();
+    kernel_cases();
+    encode_cases();
+    undo_cases();
+    part_cases();
     masks();
-    parts();
 }

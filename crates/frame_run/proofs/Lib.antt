@@ -1,6 +1,2 @@
-pub mod Widened
-pub mod Layered
-pub mod Prefixes
-pub mod Rows
-pub mod Premises
+pub mod Runs
 pub mod Penalties

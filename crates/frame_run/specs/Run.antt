@@ -1,44 +1,42 @@
--- Proof side: the rows of a frame so far, and what a whole run hands out. Assumes nothing.
+-- Proof side: what the run of a frame asks for and hands out, for any number of layers. Assumes nothing.
 use mathlib.Core.Path.{_≡_}
-use mathlib.Core.Bool.{Bool}
-use mathlib.Core.List.{List, [], _++_}
-use Prim.Native.Nat.{ℕ, zero, suc, _/_, _%_, _≤_, _<_}
-use lib.IntN.{ℤ, pos, natAbs}
+use mathlib.Core.Bool.{false}
+use mathlib.Core.List.{List, _++_}
+use Prim.Native.Nat.{ℕ, _-_, _^_, _≤_}
+use lib.IntN.{ℤ}
 use lib.ListN.{length, getD, drop}
 use Rattle.base.specs.Bit.{bit}
-use Rattle.bits.specs.Packed.{bits}
 use Rattle.polar.specs.Code.{channel}
 use Rattle.polar.specs.Follow.{scores, penalties}
+use Rattle.polar.specs.Frame.{layers}
 use Rattle.folds.specs.Range.{firstOutside}
+use Rattle.kernel.specs.Kernels.{kernel}
 use Rattle.grid.specs.Grid.{rowsBits}
-use Rattle.frame.specs.Frames.{frameCode}
+use Rattle.plan.specs.declared.Plan.{Plan}
+use Rattle.plan.specs.Plan.{badLayers, badKernels, planCode, symbolCount}
 use Rattle.run.specs.Run.{SymbolsBy}
 
--- The symbols of the first n rows.
-unfoldable pub front : ℕ → List ℕ → List Bool
-front zero rows = []
-front (suc n) rows = front n rows ++ bits 16 (getD rows n 0)
+-- How many rows of sixteen symbols a frame has.
+abbrev pub rowCount : Plan → ℕ
+rowCount p = 16 ^ (p .layers - 1)
 
--- What the run of a frame asks for: kernels that there are, 256 values in range, and room for 256 scores and penalties.
-pub record Ready (a b : ℕ) (values : List ℤ) (scoreRoom penaltyRoom : ℕ) : Type 0 where
-  pub inner : a < 3
-  pub outer : b < 3
-  pub count : length values ≡ 256
-  pub inside : firstOutside 127 values ≡ 256
-  pub score-room : 256 ≤ scoreRoom
-  pub penalty-room : 256 ≤ penaltyRoom
+-- What the run of m layers leaves: symbols by their sources, and their scores before what the buffer held past these.
+pub record Scored (ks : List ℕ) (m : ℕ) (values : List ℤ) (free given symbols : List ℕ) (new old : List ℤ) : Type 0 where
+  pub symbols-by :
+      SymbolsBy (layers (λ i. kernel (getD ks i 0)) m) (channel values) (bit (rowsBits (16 ^ (m - 1)) free)) (bit (rowsBits (16 ^ (m - 1)) given)) (rowsBits (16 ^ (m - 1)) symbols)
+  pub scores-are : new ≡ scores (layers (λ i. kernel (getD ks i 0)) m) (channel values) (rowsBits (16 ^ (m - 1)) symbols) ++ drop (16 ^ m) old
 
--- Sixteen scores that fit an i16, whose greatest number is 32767.
-abbrev pub NarrowScores : List ℤ → Type 0
-NarrowScores found = (i : ℕ) → i < 16 → natAbs (getD found i (pos 0)) ≤ 32767
+-- A plan that is not refused, as many values as it says, in range, and room for as many scores and penalties.
+pub record Ready (p : Plan) (values : List ℤ) (scoreRoom penaltyRoom : ℕ) : Type 0 where
+  pub layered : badLayers p ≡ false
+  pub known : badKernels p ≡ false
+  pub count : length values ≡ symbolCount p
+  pub inside : firstOutside 127 values ≡ symbolCount p
+  pub score-room : symbolCount p ≤ scoreRoom
+  pub penalty-room : symbolCount p ≤ penaltyRoom
 
--- What phase i pays, by rows of sixteen phases.
-abbrev pub paidAt : List (List ℕ) → ℕ → ℕ
-paidAt paid i = getD (getD paid (i / 16) []) (i % 16) 0
-
--- What the run of a frame hands out over channel values: symbols by their sources, their scores and their penalties, before what
--- the buffers held past these.
-pub record FrameRun (a b : ℕ) (values : List ℤ) (free given symbols : List ℕ) (newScores oldScores : List ℤ) (newPenalties oldPenalties : List ℕ) : Type 0 where
-  pub symbols-by : SymbolsBy (frameCode a b) (channel values) (bit (rowsBits free)) (bit (rowsBits given)) (rowsBits symbols)
-  pub scores-are : newScores ≡ scores (frameCode a b) (channel values) (rowsBits symbols) ++ drop 256 oldScores
-  pub penalties-are : newPenalties ≡ penalties (frameCode a b) (channel values) (rowsBits symbols) ++ drop 256 oldPenalties
+-- Symbols by their sources, their scores and their penalties, before what the buffers held past these.
+pub record FrameRun (p : Plan) (values : List ℤ) (free given symbols : List ℕ) (newScores oldScores : List ℤ) (newPenalties oldPenalties : List ℕ) : Type 0 where
+  pub symbols-by : SymbolsBy (planCode p) (channel values) (bit (rowsBits (rowCount p) free)) (bit (rowsBits (rowCount p) given)) (rowsBits (rowCount p) symbols)
+  pub scores-are : newScores ≡ scores (planCode p) (channel values) (rowsBits (rowCount p) symbols) ++ drop (symbolCount p) oldScores
+  pub penalties-are : newPenalties ≡ penalties (planCode p) (channel values) (rowsBits (rowCount p) symbols) ++ drop (symbolCount p) oldPenalties

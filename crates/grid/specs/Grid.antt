@@ -1,15 +1,26 @@
--- Proof side: a frame's symbols and its word as sixteen rows of sixteen bits. Assumes nothing.
+-- Proof side: a frame's symbols and its word as rows of sixteen bits. Assumes nothing.
 use mathlib.Core.Bool.{Bool}
-use mathlib.Core.List.{List}
+use mathlib.Core.List.{List, []}
 use Prim.Native.Nat.{ℕ, _+_, _-_, _*_, _/_, _%_, _^_}
-use lib.ListN.{getD}
+use lib.ListN.{length, getD}
 use Rattle.base.specs.Bit.{tabulate}
+use Rattle.polar.specs.Code.{Code}
 use Rattle.polar.specs.Kernel.{Kernel}
-use Rattle.kernel.specs.Rows.{rowBit, chosenSum, rowSum}
+use Rattle.polar.specs.Frame.{layers}
+use Rattle.polar.specs.Encoding.{stage}
+use Rattle.kernel.specs.Rows.{rowBit, chosenSum}
 
 -- The kernel of a table of rows.
 abbrev pub kernelOf : List ℕ → Kernel
 kernelOf rows = record { dim = 16; entry = rowBit rows }
+
+-- The kernels of tables, one for each layer, innermost first,
+abbrev pub tableKernel : List (List ℕ) → ℕ → Kernel
+tableKernel tables i = kernelOf (getD tables i [])
+
+-- and the frame of m layers with them.
+abbrev pub tablesCode : List (List ℕ) → ℕ → Code
+tablesCode tables m = layers (tableKernel tables) m
 
 -- Row j: the sum of the rows that column j of the choosing rows chooses.
 abbrev pub columnSum : List ℕ → List ℕ → ℕ → ℕ
@@ -19,13 +30,17 @@ columnSum rows choosing j = chosenSum rows (λ r. rowBit choosing r j)
 unfoldable pub columnSums : List ℕ → List ℕ → List ℕ
 columnSums rows choosing = tabulate 16 (columnSum rows choosing)
 
--- The sum of rows that each row of the symbols chooses.
-unfoldable pub rowSums : List ℕ → List ℕ → List ℕ
-rowSums rows symbols = tabulate 16 (λ r. rowSum rows (getD symbols r 0))
+-- Bit i of rows, sixteen to a row,
+abbrev pub rowsBit : List ℕ → ℕ → Bool
+rowsBit rows i = rowBit rows (i / 16) (i % 16)
 
--- The bits of sixteen rows, one after the other.
-unfoldable pub rowsBits : List ℕ → List Bool
-rowsBits rows = tabulate 256 (λ i. rowBit rows (i / 16) (i % 16))
+-- and the bits of the first n of them.
+unfoldable pub rowsBits : ℕ → List ℕ → List Bool
+rowsBits n rows = tabulate (16 * n) (rowsBit rows)
+
+-- The bits that a layer's stage makes of rows, in frames of e bits.
+unfoldable pub stagedBits : List ℕ → ℕ → List ℕ → List Bool
+stagedBits table e rows = tabulate (16 * length rows) (stage e 16 (rowBit table) (rowsBit rows))
 
 -- Byte i of the rows, two for each row.
 abbrev pub byteOf : List ℕ → ℕ → ℕ

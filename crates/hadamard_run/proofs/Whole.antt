@@ -53,10 +53,6 @@ module _ (k : ℕ) (ys : List ℤ) (free given : ℕ) (found : List ℤ) (symbol
             (λ i l. scored i (omega arith) ∙ sym (scores-at (kernelCode k) (channel ys) (bits 16 packed) i (pos 0) (omega (arith, length-bits 16 packed))));
       }
 
-  -- What a phase pays for its symbol, either way.
-  pub paid-is : (x s : ℕ) → s < 16 → x ≡ pay (getD found s (pos 0)) (bit symbols s) → x ≡ pay (getD found s (pos 0)) (bit (bits 16 packed) s)
-  paid-is x s l e = e ∙ ap (pay (getD found s (pos 0))) (sym (here s l))
-
 -- So a run without free symbols is one of the given symbols.
 pub given-run : (k : ℕ) (ys : List ℤ) (given : ℕ) (found : List ℤ) (symbols : List Bool) → Follows (score (kernelCode k) (channel ys)) (bit (bits 16 0)) (bit (bits 16 given)) 16 found symbols
     → length found ≡ 16 → KernelRun k ys 0 given given found

@@ -1,13 +1,14 @@
 // What `linkline` prints, from all that it reads: one function from the bytes of the input to a buffer.
 ghost use mathlib.Core.Path.{_≡_};
 ghost use mathlib.Core.List.{_++_, map};
-ghost use Prim.Native.Nat.{_≤_};
+ghost use Prim.Native.Nat.{_≤_, _<_};
 ghost use lib.ListN.{length, drop};
 ghost use Rattle.answer.specs.Verdict.{verdict, numberOf, placeOf};
 ghost use Rattle.text.specs.Put.{Put};
-ghost use Rattle.line.specs.Line.{okLines, refusedLine, lineOf, signedByte, maskOf, decodeOf};
+ghost use Rattle.line.specs.Line.{okLines, refusedLine, lineOf, signedByte, planOf, maskOf, decodeOf};
 ghost use Rattle.line.specs.Line.{line as Line·line};
 use answer::Answer;
+use plan::Plan;
 
 // Puts the line of a refusal. Each name is where its part ends.
 fn put_refused(a: Answer, out: &mut [u8]) -> usize
@@ -23,8 +24,8 @@ fn put_refused(a: Answer, out: &mut [u8]) -> usize
 
 // Puts the lines of a decoded frame. Each name is where its part ends. The longest lines are of five digits and 32 bytes:
 // 74 bytes.
-fn put_ok(penalty: u16, payload: &[u8], out: &mut [u8]) -> usize
-    requires { ⌜ (length (now payload) ≤ 32) × (length (now out) ≡ 74) ⌝ }
+fn put_ok(penalty: u32, payload: &[u8], out: &mut [u8]) -> usize
+    requires { ⌜ (length (now payload) ≤ 32) × (length (now out) ≡ 74) × (penalty < 100000) ⌝ }
     ensures { λ r. ⌜ Put (okLines penalty (now (payload .entry))) 0 r (now (out .entry)) (now (out .exit)) ⌝ }
 {
     let head = text::put(b"ok ", 0, out);
@@ -62,16 +63,19 @@ fn values(bytes: &[u8]) -> [i8; 256]
 // Decodes an input of 290 bytes, and puts its lines.
 fn put_decoded(input: &[u8], out: &mut [u8]) -> usize
     requires { ⌜ (length (now input) ≡ 290) × (length (now out) ≡ 74) ⌝ }
-    ensures { λ r. ⌜ Put (lineOf (maskOf (now (input .entry))) (decodeOf (now (input .entry)))) 0 r (now (out .entry)) (now (out .exit)) ⌝ }
+    ensures { λ r. ⌜ Put (lineOf (planOf (now (input .entry))) (maskOf (now (input .entry))) (decodeOf (now (input .entry)))) 0 r (now (out .entry)) (now (out .exit)) ⌝ }
 {
+    let plan = Plan {
+        layers: 2,
+        kernels: [input[0], input[1], 0],
+    };
     let mask = &input[2..34];
     let received = values(&input[34..]);
-    let mut scores = [0i16; 256];
-    let mut penalties = [0u16; 256];
+    let mut scores = [0i32; 256];
+    let mut penalties = [0u32; 256];
     let mut payload = [0u8; 32];
     let a = decode::frame_decode(
-        input[0],
-        input[1],
+        plan,
         &received,
         mask,
         &mut scores,
@@ -81,7 +85,11 @@ fn put_decoded(input: &[u8], out: &mut [u8]) -> usize
     if !answer::accepted(a) {
         return put_refused(a, out);
     }
-    put_ok(penalties[255], mask::payload_part(mask, &payload), out)
+    put_ok(
+        penalties[255],
+        part::payload_part(plan, mask, &payload),
+        out,
+    )
 }
 
 // Fills the buffer with all that is printed for an input of any length, and answers how many bytes that is. What lies past

@@ -2,7 +2,7 @@
 ghost use mathlib.Core.Path.{_≡_};
 ghost use Rattle.answer.specs.Verdict.{verdict};
 ghost use Rattle.kernel.specs.Jobs.{kernelEncode, kernelUndo};
-ghost use Rattle.mask.specs.Mask.{partLength};
+ghost use Rattle.part.specs.Part.{partLength};
 ghost use Rattle.order.specs.Jobs.{informationMask};
 ghost use Rattle.frame.specs.Jobs.{frameEncode, frameUndo};
 ghost use Rattle.follow.specs.Jobs.{kernelFollow};
@@ -11,6 +11,7 @@ ghost use Rattle.quantiser.specs.Jobs.{valuesFromMarks};
 ghost use Rattle.list_decode.specs.Jobs.{listDecode};
 ghost use Rattle.link.specs.Outcomes.{outcomeOf, outcomeWith, outcomeWithTwo, outcomeWithThree, wordOutcomeOf, penaltyOutcomeOf, penaltyOutcomeWithTwo};
 use answer::Answer;
+use plan::Plan;
 
 // The outcome of a job without a word or a penalty: the number of the condition that refused it, 0 if accepted, and the place that it names.
 #[repr(C)]
@@ -89,39 +90,37 @@ pub extern "C" fn nospridda_kernel_undo(kernel: u8, word: u16) -> WordOutcome
 // Frame encode: the word of a payload at the marked phases.
 #[no_mangle]
 pub extern "C" fn nospridda_frame_encode(
-    inner: u8,
-    outer: u8,
+    plan: Plan,
     mask: &[u8],
     payload: &[u8],
     word: &mut [u8],
 ) -> Outcome
-    ensures { λ r. ⌜ outcomeWith (frameEncode inner outer (now (mask .entry)) (now (payload .entry)) (now (word .entry))) ≡ (r, now (word .exit)) ⌝ }
+    ensures { λ r. ⌜ outcomeWith (frameEncode plan (now (mask .entry)) (now (payload .entry)) (now (word .entry))) ≡ (r, now (word .exit)) ⌝ }
 {
-    let a = frame::frame_encode(inner, outer, mask, payload, word);
+    let a = frame::frame_encode(plan, mask, payload, word);
     outcome_of(a)
 }
 
 // Frame undo: the payload of a word.
 #[no_mangle]
 pub extern "C" fn nospridda_frame_undo(
-    inner: u8,
-    outer: u8,
+    plan: Plan,
     mask: &[u8],
     word: &[u8],
     payload: &mut [u8],
 ) -> Outcome
-    ensures { λ r. ⌜ outcomeWith (frameUndo inner outer (now (mask .entry)) (now (word .entry)) (now (payload .entry))) ≡ (r, now (payload .exit)) ⌝ }
+    ensures { λ r. ⌜ outcomeWith (frameUndo plan (now (mask .entry)) (now (word .entry)) (now (payload .entry))) ≡ (r, now (payload .exit)) ⌝ }
 {
-    let a = frame::frame_undo(inner, outer, mask, word, payload);
+    let a = frame::frame_undo(plan, mask, word, payload);
     outcome_of(a)
 }
 
 // The length of the payload part of a caller's bytes.
 #[no_mangle]
-pub extern "C" fn nospridda_part_length(mask: &[u8], length: usize) -> usize
-    ensures { λ r. ⌜ r ≡ partLength (now (mask .entry)) length ⌝ }
+pub extern "C" fn nospridda_part_length(plan: Plan, mask: &[u8], length: usize) -> usize
+    ensures { λ r. ⌜ r ≡ partLength plan (now (mask .entry)) length ⌝ }
 {
-    mask::part_length(mask, length)
+    part::part_length(plan, mask, length)
 }
 
 // Information mask: the mask for p bytes of payload.
@@ -161,36 +160,34 @@ pub extern "C" fn nospridda_kernel_follow_hadamard(
     outcome_of(a)
 }
 
-// Frame follow: the scores and penalties of 256 symbols over 256 channel values.
+// Frame follow: the scores and penalties of a frame's symbols over its channel values.
 #[no_mangle]
 pub extern "C" fn nospridda_frame_follow(
-    inner: u8,
-    outer: u8,
+    plan: Plan,
     values: &[i8],
     symbols: &[u8],
-    scores: &mut [i16],
-    penalties: &mut [u16],
+    scores: &mut [i32],
+    penalties: &mut [u32],
 ) -> Outcome
-    ensures { λ r. ⌜ outcomeWithTwo (frameFollow inner outer (now (values .entry)) (now (symbols .entry)) (now (scores .entry)) (now (penalties .entry))) ≡ (r, now (scores .exit), now (penalties .exit)) ⌝ }
+    ensures { λ r. ⌜ outcomeWithTwo (frameFollow plan (now (values .entry)) (now (symbols .entry)) (now (scores .entry)) (now (penalties .entry))) ≡ (r, now (scores .exit), now (penalties .exit)) ⌝ }
 {
-    let a = decode::frame_follow(inner, outer, values, symbols, scores, penalties);
+    let a = decode::frame_follow(plan, values, symbols, scores, penalties);
     outcome_of(a)
 }
 
 // Frame decode: the scores and penalties of the decoder's own symbols, and its payload.
 #[no_mangle]
 pub extern "C" fn nospridda_frame_decode(
-    inner: u8,
-    outer: u8,
+    plan: Plan,
     values: &[i8],
     mask: &[u8],
-    scores: &mut [i16],
-    penalties: &mut [u16],
+    scores: &mut [i32],
+    penalties: &mut [u32],
     payload: &mut [u8],
 ) -> Outcome
-    ensures { λ r. ⌜ outcomeWithThree (frameDecode inner outer (now (values .entry)) (now (mask .entry)) (now (scores .entry)) (now (penalties .entry)) (now (payload .entry))) ≡ (r, now (scores .exit), now (penalties .exit), now (payload .exit)) ⌝ }
+    ensures { λ r. ⌜ outcomeWithThree (frameDecode plan (now (values .entry)) (now (mask .entry)) (now (scores .entry)) (now (penalties .entry)) (now (payload .entry))) ≡ (r, now (scores .exit), now (penalties .exit), now (payload .exit)) ⌝ }
 {
-    let a = decode::frame_decode(inner, outer, values, mask, scores, penalties, payload);
+    let a = decode::frame_decode(plan, values, mask, scores, penalties, payload);
     outcome_of(a)
 }
 
@@ -211,16 +208,15 @@ pub extern "C" fn nospridda_values_from_marks(
 // List decoding: the payload and the penalty of the best agreeing path.
 #[no_mangle]
 pub extern "C" fn nospridda_list_decode(
-    inner: u8,
-    outer: u8,
+    plan: Plan,
     list: usize,
     values: &[i8],
     mask: &[u8],
     scratch: &mut [u8],
     payload: &mut [u8],
 ) -> PenaltyOutcome
-    ensures { λ r. ⌜ penaltyOutcomeWithTwo (listDecode inner outer list (now (values .entry)) (now (mask .entry)) (now (scratch .entry)) (now (payload .entry))) ≡ (r, now (scratch .exit), now (payload .exit)) ⌝ }
+    ensures { λ r. ⌜ penaltyOutcomeWithTwo (listDecode plan list (now (values .entry)) (now (mask .entry)) (now (scratch .entry)) (now (payload .entry))) ≡ (r, now (scratch .exit), now (payload .exit)) ⌝ }
 {
-    let a = list_decode::list_decode(inner, outer, list, values, mask, scratch, payload);
+    let a = list_decode::list_decode(plan, list, values, mask, scratch, payload);
     penalty_outcome_of(a)
 }

@@ -1,6 +1,6 @@
 -- What holds of the paths that are kept: how many they are, how long, what they pay, and that a list of one is the single decoder.
 -- Assumes nothing.
-use mathlib.Core.Path.{_≡_, refl, sym, ap, ap₂, _∙_}
+use mathlib.Core.Path.{_≡_, refl, sym, ap, ap₂, _∙_, fun-ext}
 use mathlib.Core.Bool.{Bool, true, false, not}
 use mathlib.Core.List.{List, [], _∷_, _++_, map, append-nil, append-assoc}
 use Prim.Native.Nat.{ℕ, zero, suc, _+_, _*_, _/_, _^_, _≤_, _<_, min}
@@ -20,6 +20,7 @@ use Rattle.polar.specs.Exact.{ExactScore, ExactPenalty}
 use Rattle.polar.proofs.Least.{least-le, least-at, best-is, score-least}
 use Rattle.polar.proofs.Values.{penalty-next}
 use Rattle.polar.proofs.Follow.{length-decode, decode-at}
+use Rattle.polar.proofs.Alike.{Alike, alike-least}
 use Rattle.list.specs.Sort.{insert, sort, inOrder}
 use Rattle.list.specs.Ahead.{All}
 use Rattle.list.specs.Paths.{phase, paths, candidate, marks}
@@ -202,3 +203,11 @@ single C m mark (suc n) l =
     ∙ one C m (mark n) (take n u)
     ∙ ap (λ b. (take n u ++ (b ∷ [])) ∷ []) (sym (decode-at C m mark n l))
     ∙ ap (λ (p : List Bool). p ∷ []) (sym (take-suc u n false (omega (arith, length-decode C m mark))))
+
+-- ---- codes that are alike keep the same paths
+
+pub alike-paths : (C D : Code) → Alike C D → (m : Costs) (mark : ℕ → Bool) (L n : ℕ) → paths C m mark L n ≡ paths D m mark L n
+unfolding paths
+alike-paths C D a m mark L zero = refl
+alike-paths C D a m mark L (suc n) =
+    ap₂ (λ (penalty : List Bool → ℕ) (ps : List (List Bool)). phase penalty L (mark n) ps) (fun-ext (alike-least C D a m)) (alike-paths C D a m mark L n)

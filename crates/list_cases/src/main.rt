@@ -5,133 +5,161 @@ ghost use Prim.Native.Nat.{_<_};
 ghost use lib.ListN.{length};
 use answer::Answer;
 use libc::STDOUT_FILENO;
+use plan::Plan;
 
-// The information masks of 24, 64 and 96 phases,
-const MASK_24: [u64; 4] = [0, 0, 0x0001000100010001, 0x00000017003713ff];
+// The numbers of the masks and words below.
+const NONE: usize = 0;
 
-const MASK_64: [u64; 4] = [1, 0x10001, 0x00f700f700f700f7, 0x000100f703ff7fff];
+const MASK_24: usize = 1;
 
-const MASK_96: [u64; 4] = [
-    0x0000000000010037,
-    0x0001000100370037,
-    0x00f700f713ff13ff,
-    0x003713ff13ff7fff,
-];
+const MASK_64: usize = 2;
 
-// one of 40 phases, the last of them being 231,
-const EARLY_40: [u64; 4] = [1, 0x10001, 0x00f700f700f700f7, 0x000100f701000000];
+const MASK_96: usize = 3;
 
-// those of the last 16, 12 and 8 phases,
-const LAST_16: [u64; 4] = [0, 0, 0, 0xffff];
+const EARLY_40: usize = 4;
 
-const LAST_12: [u64; 4] = [0, 0, 0, 0xfff];
+const LAST_16: usize = 5;
 
-const LAST_8: [u64; 4] = [0, 0, 0, 0xff];
+const LAST_12: usize = 6;
 
-// and that of all.
-const ALL: [u64; 4] = [
-    0xffffffffffffffff,
-    0xffffffffffffffff,
-    0xffffffffffffffff,
-    0xffffffffffffffff,
-];
+const LAST_8: usize = 7;
 
-const NONE: [u64; 4] = [0, 0, 0, 0];
+const ALL: usize = 8;
 
-// Pair (1, 2), 96 phases: of a list of two the first path fails the checksum and the second passes.
-const SECOND: [u64; 4] = [
-    0x105729bd2fe53b89,
-    0x0dc7d4fdb01cc676,
-    0xa5f5eeac717e714d,
-    0x553ce6fc2eb7a19d,
-];
+const SECOND: usize = 9;
 
-// Words that were heard, with their errors. Pair (1, 2), 96 phases: the third path agrees.
-const THIRD: [u64; 4] = [
-    0x99a23f2c9fa83532,
-    0xda2d780f2f6bacd4,
-    0xa0aac9e58c8da54b,
-    0xa46c53183440c3d2,
-];
+const THIRD: usize = 10;
 
-// Pair (2, 0), 64 phases: a list of four has a path that agrees, one of two has none.
-const FOUR: [u64; 4] = [
-    0x7d28c7925a0de2b3,
-    0x451eb2e5b4e5b4e1,
-    0x93ce5f027022bee7,
-    0x550122178acb1746,
-];
+const FOUR: usize = 11;
 
-// Pair (0, 1), 24 phases: the first path agrees, also in a list of one.
-const FIRST: [u64; 4] = [
-    0x5b1d542e7b1d0a2e,
-    0x84ef682e84e0b5db,
-    0x7b0d880e7b5c086e,
-    0x96e2e82e04a2b7c3,
-];
+const FIRST: usize = 12;
 
-// Pair (2, 1), all phases: no error, and one error, where the seventh path agrees.
-const CLEAN: [u64; 4] = [
-    0x058340a547a28f82,
-    0x1cee9b4fc3a177f3,
-    0x8118b044ae5681e9,
-    0x1c4c3def4fea3d0b,
-];
+const CLEAN: usize = 13;
 
-const SEVENTH: [u64; 4] = [
-    0x058340a547a28f02,
-    0x1cee9b4fc3a177f3,
-    0x8118b044ae5681e9,
-    0x1c4c3def4fea3d0b,
-];
+const SEVENTH: usize = 14;
 
-// Pair (1, 1), the mask of 40 phases.
-const EARLY: [u64; 4] = [
-    0x08260ac6f5c20c6a,
-    0x0000950c8888a6c0,
-    0x8e24f9acd1481dc4,
-    0x2ca0cccc06a81d84,
-];
+const EARLY: usize = 15;
 
-// Pair (2, 2), 24 phases: the checksum that was sent is wrong.
-const WRONG: [u64; 4] = [
-    0xaf9c360536055063,
-    0xc9faaf9c5063c9fa,
-    0x50633605c9fa5063,
-    0xc9fa506350633605,
-];
+const WRONG: usize = 16;
 
-// Pair (0, 2), the mask of 40 phases: the words of two payloads whose checksums agree, 84ac326504 and 84ac766d44, the first with 1 at
-// phase 232; they differ at these places only, whose values are 0. Neither pays as long as that phase is free; at the end the first pays
-// 248.
-const BEHIND: [u64; 4] = [
-    0x7dbe1bd8b4441428,
-    0x1d7478881d747888,
-    0x7dbe1bd8b4441428,
-    0x1d7478881d747888,
-];
+const BEHIND: usize = 17;
 
-const BEHIND_BLANK: [u64; 4] = [
-    0x9696c33c00000000,
-    0x0ff00ff000000000,
-    0x9696c33c00000000,
-    0x0ff00ff000000000,
-];
+const BEHIND_BLANK: usize = 18;
 
-// Pair (2, 2), 24 phases: the words of two payloads whose checksums agree, 358706 and 37a744; they differ at these places only, whose
-// values are 0, so that both pay 0.
-const TWO: [u64; 4] = [
-    0x5aa5a55a69969669,
-    0x5aa5a55a96696996,
-    0xf00f0ff03cc3c33c,
-    0x0ff0f00f3cc3c33c,
-];
+const TWO: usize = 19;
 
-const TWO_BLANK: [u64; 4] = [
-    0x99995555cccc0000,
-    0x6666555533330000,
-    0x6666aaaacccc0000,
-    0x9999aaaa33330000,
+const TWO_BLANK: usize = 20;
+
+// The masks and words of the cases, by these numbers.
+const WORDS: [[u64; 4]; 21] = [
+    // Information masks: of no phase, of 24, 64 and 96,
+    [0, 0, 0, 0],
+    [0, 0, 0x0001000100010001, 0x00000017003713ff],
+    [1, 0x10001, 0x00f700f700f700f7, 0x000100f703ff7fff],
+    [
+        0x0000000000010037,
+        0x0001000100370037,
+        0x00f700f713ff13ff,
+        0x003713ff13ff7fff,
+    ],
+    // of 40 phases, the last of them being 231,
+    [1, 0x10001, 0x00f700f700f700f7, 0x000100f701000000],
+    // of the last 16, 12 and 8 phases,
+    [0, 0, 0, 0xffff],
+    [0, 0, 0, 0xfff],
+    [0, 0, 0, 0xff],
+    // and of all.
+    [
+        0xffffffffffffffff,
+        0xffffffffffffffff,
+        0xffffffffffffffff,
+        0xffffffffffffffff,
+    ],
+    // Words that were heard, with their errors. Kernels 1 and 2, 96 phases: of a list of two the first path fails the checksum and the
+    // second passes.
+    [
+        0x105729bd2fe53b89,
+        0x0dc7d4fdb01cc676,
+        0xa5f5eeac717e714d,
+        0x553ce6fc2eb7a19d,
+    ],
+    // The same, where the third path agrees.
+    [
+        0x99a23f2c9fa83532,
+        0xda2d780f2f6bacd4,
+        0xa0aac9e58c8da54b,
+        0xa46c53183440c3d2,
+    ],
+    // Kernels 2 and 0, 64 phases: a list of four has a path that agrees, one of two has none.
+    [
+        0x7d28c7925a0de2b3,
+        0x451eb2e5b4e5b4e1,
+        0x93ce5f027022bee7,
+        0x550122178acb1746,
+    ],
+    // Kernels 0 and 1, 24 phases: the first path agrees, also in a list of one.
+    [
+        0x5b1d542e7b1d0a2e,
+        0x84ef682e84e0b5db,
+        0x7b0d880e7b5c086e,
+        0x96e2e82e04a2b7c3,
+    ],
+    // Kernels 2 and 1, all phases: no error, and one error, where the seventh path agrees.
+    [
+        0x058340a547a28f82,
+        0x1cee9b4fc3a177f3,
+        0x8118b044ae5681e9,
+        0x1c4c3def4fea3d0b,
+    ],
+    [
+        0x058340a547a28f02,
+        0x1cee9b4fc3a177f3,
+        0x8118b044ae5681e9,
+        0x1c4c3def4fea3d0b,
+    ],
+    // Kernels 1 and 1, the mask of 40 phases.
+    [
+        0x08260ac6f5c20c6a,
+        0x0000950c8888a6c0,
+        0x8e24f9acd1481dc4,
+        0x2ca0cccc06a81d84,
+    ],
+    // Kernels 2 and 2, 24 phases: the checksum that was sent is wrong.
+    [
+        0xaf9c360536055063,
+        0xc9faaf9c5063c9fa,
+        0x50633605c9fa5063,
+        0xc9fa506350633605,
+    ],
+    // Kernels 0 and 2, the mask of 40 phases: the words of two payloads whose checksums agree, 84ac326504 and 84ac766d44, the first with 1
+    // at phase 232; they differ at these places only, whose values are 0. Neither pays as long as that phase is free; at the end the first
+    // pays 248.
+    [
+        0x7dbe1bd8b4441428,
+        0x1d7478881d747888,
+        0x7dbe1bd8b4441428,
+        0x1d7478881d747888,
+    ],
+    [
+        0x9696c33c00000000,
+        0x0ff00ff000000000,
+        0x9696c33c00000000,
+        0x0ff00ff000000000,
+    ],
+    // Kernels 2 and 2, 24 phases: the words of two payloads whose checksums agree, 358706 and 37a744; they differ at these places only,
+    // whose values are 0, so that both pay 0.
+    [
+        0x5aa5a55a69969669,
+        0x5aa5a55a96696996,
+        0xf00f0ff03cc3c33c,
+        0x0ff0f00f3cc3c33c,
+    ],
+    [
+        0x99995555cccc0000,
+        0x6666555533330000,
+        0x6666aaaacccc0000,
+        0x9999aaaa33330000,
+    ],
 ];
 
 // The values of a place where 0 was heard, and where 1 was heard.
@@ -154,6 +182,186 @@ const LOW: [i8; 16] = [
     -5,
     -63,
     -14,
+];
+
+// The labels of the cases,
+const LABELS: [[u8; 28]; 53] = [
+    *b"second agrees, L 2          ",
+    *b"second agrees, L 1          ",
+    *b"third agrees, L 8           ",
+    *b"third agrees, L 4           ",
+    *b"k 64, L 4                   ",
+    *b"k 64, L 2                   ",
+    *b"seventh agrees, k 256, L 8  ",
+    *b"seventh agrees, k 256, L 4  ",
+    *b"last phases unmarked, L 8   ",
+    *b"last phases unmarked, L 1   ",
+    *b"k 24, L 1                   ",
+    *b"k 24, L 8                   ",
+    *b"k 256, L 1                  ",
+    *b"k 256, L 8                  ",
+    *b"wrong checksum, L 1         ",
+    *b"wrong checksum, L 8         ",
+    *b"all 0, L 8                  ",
+    *b"third and seventh agree, L 8",
+    *b"third agrees alone, L 4     ",
+    *b"first and second agree, L 8 ",
+    *b"first and second agree, L 2 ",
+    *b"m 0                         ",
+    *b"m 1                         ",
+    *b"m 3                         ",
+    *b"m 4                         ",
+    *b"m 255                       ",
+    *b"inner kernel 3              ",
+    *b"outer kernel 255            ",
+    *b"third kernel 0              ",
+    *b"L 0                         ",
+    *b"L 9                         ",
+    *b"255 values                  ",
+    *b"mask of 31                  ",
+    *b"k 0                         ",
+    *b"k 12                        ",
+    *b"k 8                         ",
+    *b"k 16                        ",
+    *b"scratch 8191                ",
+    *b"scratch 8192, payload 3     ",
+    *b"scratch 8193, payload 4     ",
+    *b"payload 2                   ",
+    *b"wrong checksum, payload 2   ",
+    *b"wrong checksum, payload 4   ",
+    *b"14 and 1, m 1               ",
+    *b"14 and 1, m 3               ",
+    *b"14 and 11                   ",
+    *b"1 and 11                    ",
+    *b"11 and 2                    ",
+    *b"2 and 3                     ",
+    *b"3 and 12                    ",
+    *b"12 and 5                    ",
+    *b"5 and 6                     ",
+    *b"6 and 13                    ",
+];
+
+// and their numbers: the layers, the three kernels, the list size, the word that was heard, its blank places, the mask, whether two
+// values lie outside, how many values and bytes of the mask there are, and the room in scratch and payload.
+const CASES: [[usize; 13]; 53] = [
+    // A frame whose first path fails the checksum and whose second passes, and a list with no room for it.
+    [2, 1, 2, 255, 2, SECOND, NONE, MASK_96, 0, 256, 32, 8200, 36],
+    [2, 1, 2, 255, 1, SECOND, NONE, MASK_96, 0, 256, 32, 8200, 36],
+    // Frames that a longer list gets right and a shorter one does not, and unmarked phases at the end.
+    [2, 1, 2, 255, 8, THIRD, NONE, MASK_96, 0, 256, 32, 8200, 36],
+    [2, 1, 2, 255, 4, THIRD, NONE, MASK_96, 0, 256, 32, 8200, 36],
+    [2, 2, 0, 255, 4, FOUR, NONE, MASK_64, 0, 256, 32, 8200, 36],
+    [2, 2, 0, 255, 2, FOUR, NONE, MASK_64, 0, 256, 32, 8200, 36],
+    [2, 2, 1, 255, 8, SEVENTH, NONE, ALL, 0, 256, 32, 8200, 36],
+    [2, 2, 1, 255, 4, SEVENTH, NONE, ALL, 0, 256, 32, 8200, 36],
+    [2, 1, 1, 255, 8, EARLY, NONE, EARLY_40, 0, 256, 32, 8200, 36],
+    [2, 1, 1, 255, 1, EARLY, NONE, EARLY_40, 0, 256, 32, 8200, 36],
+    // A list of one is the single decoder.
+    [2, 0, 1, 255, 1, FIRST, NONE, MASK_24, 0, 256, 32, 8200, 36],
+    [2, 0, 1, 255, 8, FIRST, NONE, MASK_24, 0, 256, 32, 8200, 36],
+    [2, 2, 1, 255, 1, CLEAN, NONE, ALL, 0, 256, 32, 8200, 36],
+    [2, 2, 1, 255, 8, CLEAN, NONE, ALL, 0, 256, 32, 8200, 36],
+    // No checksum agrees.
+    [2, 2, 2, 255, 1, WRONG, NONE, MASK_24, 0, 256, 32, 8200, 36],
+    [2, 2, 2, 255, 8, WRONG, NONE, MASK_24, 0, 256, 32, 8200, 36],
+    [2, 1, 2, 255, 8, NONE, ALL, MASK_24, 0, 256, 32, 8200, 36],
+    // Several final paths agree: the one of least penalty is answered, and of equal penalties the first.
+    [
+        2,
+        0,
+        2,
+        255,
+        8,
+        BEHIND,
+        BEHIND_BLANK,
+        EARLY_40,
+        0,
+        256,
+        32,
+        8200,
+        36,
+    ],
+    [
+        2,
+        0,
+        2,
+        255,
+        4,
+        BEHIND,
+        BEHIND_BLANK,
+        EARLY_40,
+        0,
+        256,
+        32,
+        8200,
+        36,
+    ],
+    [
+        2,
+        2,
+        2,
+        255,
+        8,
+        TWO,
+        TWO_BLANK,
+        MASK_24,
+        0,
+        256,
+        32,
+        8200,
+        36,
+    ],
+    [
+        2,
+        2,
+        2,
+        255,
+        2,
+        TWO,
+        TWO_BLANK,
+        MASK_24,
+        0,
+        256,
+        32,
+        8200,
+        36,
+    ],
+    // Another number of layers than two, and the kernels of two.
+    [0, 0, 0, 0, 8, TWO, NONE, MASK_24, 0, 256, 32, 8200, 36],
+    [1, 0, 0, 0, 8, TWO, NONE, MASK_24, 0, 256, 32, 8200, 36],
+    [3, 0, 0, 0, 8, TWO, NONE, MASK_24, 0, 256, 32, 8200, 36],
+    [4, 0, 0, 0, 8, TWO, NONE, MASK_24, 0, 256, 32, 8200, 36],
+    [255, 0, 0, 0, 8, TWO, NONE, MASK_24, 0, 256, 32, 8200, 36],
+    [2, 3, 0, 255, 8, TWO, NONE, MASK_24, 0, 256, 32, 8200, 36],
+    [2, 0, 255, 255, 8, TWO, NONE, MASK_24, 0, 256, 32, 8200, 36],
+    [2, 2, 2, 0, 8, TWO, NONE, MASK_24, 0, 256, 32, 8200, 36],
+    // Sizes and masks.
+    [2, 0, 0, 255, 0, TWO, NONE, MASK_24, 0, 256, 32, 8200, 36],
+    [2, 0, 0, 255, 9, TWO, NONE, MASK_24, 0, 256, 32, 8200, 36],
+    [2, 0, 0, 255, 8, TWO, NONE, MASK_24, 0, 255, 32, 8200, 36],
+    [2, 0, 0, 255, 8, TWO, NONE, ALL, 0, 256, 31, 8200, 36],
+    [2, 0, 0, 255, 8, TWO, NONE, NONE, 0, 256, 32, 8200, 36],
+    [2, 0, 0, 255, 8, TWO, NONE, LAST_12, 0, 256, 32, 8200, 36],
+    [2, 0, 0, 255, 8, TWO, NONE, LAST_8, 0, 256, 32, 8200, 36],
+    [2, 0, 0, 255, 8, TWO, NONE, LAST_16, 0, 256, 32, 8200, 36],
+    // Scratch of 8,191, 8,192 and 8,193 bytes, and payloads of two and three bytes, where three are needed; where no checksum agrees too.
+    [2, 2, 2, 255, 8, TWO, NONE, MASK_24, 0, 256, 32, 8191, 3],
+    [2, 2, 2, 255, 8, TWO, NONE, MASK_24, 0, 256, 32, 8192, 3],
+    [2, 2, 2, 255, 8, TWO, NONE, MASK_24, 0, 256, 32, 8193, 4],
+    [2, 2, 2, 255, 8, TWO, NONE, MASK_24, 0, 256, 32, 8193, 2],
+    [2, 2, 2, 255, 8, WRONG, NONE, MASK_24, 0, 256, 32, 8193, 2],
+    [2, 2, 2, 255, 8, WRONG, NONE, MASK_24, 0, 256, 32, 8193, 4],
+    // Several conditions at once: the first in checking order counts.
+    [1, 3, 0, 255, 8, TWO, NONE, MASK_24, 0, 256, 32, 8200, 36],
+    [3, 0, 0, 255, 8, TWO, NONE, MASK_24, 0, 256, 32, 8200, 36],
+    [3, 0, 0, 0, 9, TWO, NONE, MASK_24, 0, 256, 32, 8200, 36],
+    [2, 3, 0, 255, 9, WRONG, NONE, MASK_24, 1, 255, 32, 8200, 36],
+    [2, 0, 0, 255, 0, WRONG, NONE, MASK_24, 1, 255, 32, 8200, 36],
+    [2, 0, 0, 255, 8, WRONG, NONE, NONE, 1, 255, 32, 8200, 36],
+    [2, 2, 2, 255, 8, WRONG, NONE, LAST_12, 1, 256, 32, 8200, 36],
+    [2, 2, 2, 255, 8, WRONG, NONE, LAST_16, 1, 256, 32, 8191, 1],
+    [2, 2, 2, 255, 8, WRONG, NONE, MASK_24, 1, 256, 32, 8191, 3],
+    [2, 2, 2, 255, 8, WRONG, NONE, MASK_24, 1, 256, 32, 8200, 36],
 ];
 
 // Byte j of eight, the highest first.
@@ -189,7 +397,8 @@ fn value_at(heard: &[u8], blank: &[u8], i: usize) -> i8
     high[k]
 }
 
-fn values_of(heard: [u64; 4], blank: [u64; 4]) -> [i8; 256] {
+// The values of a word, and -128 at two places where they lie outside.
+fn values_of(heard: [u64; 4], blank: [u64; 4], outside: usize) -> [i8; 256] {
     let h = bytes_of(heard);
     let b = bytes_of(blank);
     let mut values = [0i8; 256];
@@ -198,6 +407,10 @@ fn values_of(heard: [u64; 4], blank: [u64; 4]) -> [i8; 256] {
         let value = value_at(&h, &b, i);
         values[i] = value;
         i += 1;
+    }
+    if outside == 1 {
+        values[30] = -128;
+        values[200] = -128;
     }
     values
 }
@@ -238,242 +451,117 @@ fn say(label: &[u8], a: Answer, scratch: &[u8], payload: &[u8]) {
     io::write_all(STDOUT_FILENO, b"\n");
 }
 
-// List decoding with 8,200 bytes of scratch and 36 of payload.
-fn decoded(label: &[u8], inner: u8, outer: u8, list: usize, values: &[i8], mask: &[u8]) {
-    let mut scratch = [0xa5u8; 8200];
-    let mut payload = [0x5au8; 36];
-    let a = list_decode::list_decode(inner, outer, list, values, mask, &mut scratch, &mut payload);
-    say(label, a, &scratch, &payload);
-}
-
-// With kernels 2 and 2 and a list of 8, in lent buffers.
-fn lent(label: &[u8], values: &[i8], mask: &[u8], scratch: &mut [u8], payload: &mut [u8]) {
-    let a = list_decode::list_decode(2, 2, 8, values, mask, scratch, payload);
-    say(label, a, scratch, payload);
-}
-
-fn say_penalty(x: u16) {
+fn say_penalty(x: u32) {
     io::write_all(STDOUT_FILENO, b", penalty ");
     io::print_decimal(STDOUT_FILENO, x as u64);
 }
 
-// A list of one, and frame decode beside it: its last penalty, and whether its payload is the same.
-fn single(label: &[u8], inner: u8, outer: u8, values: &[i8], mask: &[u8]) {
-    let mut scratch = [0xa5u8; 8200];
-    let mut payload = [0x5au8; 36];
-    let a = list_decode::list_decode(inner, outer, 1, values, mask, &mut scratch, &mut payload);
-    say(label, a, &scratch, &payload);
-    let mut scores = [0i16; 256];
-    let mut penalties = [0u16; 256];
+// Frame decode beside a list of one: its last penalty, and whether its payload is the same.
+fn beside(plan: Plan, values: &[i8], mask: &[u8], payload: &[u8]) {
+    let mut scores = [0i32; 256];
+    let mut penalties = [0u32; 256];
     let mut other = [0x5au8; 36];
-    let b = decode::frame_decode(
-        inner,
-        outer,
-        values,
-        mask,
-        &mut scores,
-        &mut penalties,
-        &mut other,
-    );
+    let b = decode::frame_decode(plan, values, mask, &mut scores, &mut penalties, &mut other);
     report::say_answer(b"  frame decode", b);
     say_penalty(penalties[255]);
-    if report::same_from(&payload, &other, 0) {
+    if report::same_from(payload, &other, 0) {
         io::write_all(STDOUT_FILENO, b", same payload\n");
     } else {
         io::write_all(STDOUT_FILENO, b", another payload\n");
     }
 }
 
-// A frame whose first path fails the checksum and whose second passes, and a list with no room for it.
-fn second_cases() {
-    let m = bytes_of(MASK_96);
-    let second = values_of(SECOND, NONE);
-    decoded(b"second agrees, L 2", 1, 2, 2, &second, &m);
-    decoded(b"second agrees, L 1", 1, 2, 1, &second, &m);
+// One job, what it answers and what it leaves.
+fn decoded(
+    label: &[u8],
+    plan: Plan,
+    list: usize,
+    values: &[i8],
+    mask: &[u8],
+    scratch: &mut [u8],
+    payload: &mut [u8],
+) {
+    let a = list_decode::list_decode(plan, list, values, mask, scratch, payload);
+    say(label, a, scratch, payload);
+    if list == 1 {
+        beside(plan, values, mask, payload);
+    }
 }
 
-// Frames that a longer list gets right and a shorter one does not, and unmarked phases at the end.
-fn late_cases() {
-    let m = bytes_of(MASK_96);
-    let third = values_of(THIRD, NONE);
-    decoded(b"third agrees, L 8", 1, 2, 8, &third, &m);
-    decoded(b"third agrees, L 4", 1, 2, 4, &third, &m);
-    let n = bytes_of(MASK_64);
-    let four = values_of(FOUR, NONE);
-    decoded(b"k 64, L 4", 2, 0, 4, &four, &n);
-    decoded(b"k 64, L 2", 2, 0, 2, &four, &n);
-    let all = bytes_of(ALL);
-    let seventh = values_of(SEVENTH, NONE);
-    decoded(b"seventh agrees, k 256, L 8", 2, 1, 8, &seventh, &all);
-    decoded(b"seventh agrees, k 256, L 4", 2, 1, 4, &seventh, &all);
-    let e = bytes_of(EARLY_40);
-    let early = values_of(EARLY, NONE);
-    decoded(b"last phases unmarked, L 8", 1, 1, 8, &early, &e);
-    decoded(b"last phases unmarked, L 1", 1, 1, 1, &early, &e);
+fn plan_of(row: [usize; 13]) -> Plan {
+    Plan {
+        layers: (row[0] % 256) as u8,
+        kernels: [
+            (row[1] % 256) as u8,
+            (row[2] % 256) as u8,
+            (row[3] % 256) as u8,
+        ],
+    }
 }
 
-// A list of one is the single decoder.
-fn single_cases() {
-    let m = bytes_of(MASK_24);
-    let first = values_of(FIRST, NONE);
-    single(b"k 24, L 1", 0, 1, &first, &m);
-    decoded(b"k 24, L 8", 0, 1, 8, &first, &m);
-    let all = bytes_of(ALL);
-    let clean = values_of(CLEAN, NONE);
-    single(b"k 256, L 1", 2, 1, &clean, &all);
-    decoded(b"k 256, L 8", 2, 1, 8, &clean, &all);
+// The word of a number.
+fn word_of(n: usize) -> [u64; 4] {
+    let words = WORDS;
+    words[n % 21]
 }
 
-// No checksum agrees.
-fn wrong_cases() {
-    let m = bytes_of(MASK_24);
-    let wrong = values_of(WRONG, NONE);
-    single(b"wrong checksum, L 1", 2, 2, &wrong, &m);
-    decoded(b"wrong checksum, L 8", 2, 2, 8, &wrong, &m);
-    let zero = [0i8; 256];
-    decoded(b"all 0, L 8", 1, 2, 8, &zero, &m);
+fn label_of(k: usize) -> [u8; 28]
+    requires { ⌜ k < 53 ⌝ }
+{
+    let labels = LABELS;
+    labels[k]
 }
 
-// Several final paths agree: the one of least penalty is answered, and of equal penalties the first.
-fn several_cases() {
-    let e = bytes_of(EARLY_40);
-    let behind = values_of(BEHIND, BEHIND_BLANK);
-    decoded(b"third and seventh agree, L 8", 0, 2, 8, &behind, &e);
-    decoded(b"third agrees alone, L 4", 0, 2, 4, &behind, &e);
-    let m = bytes_of(MASK_24);
-    let two = values_of(TWO, TWO_BLANK);
-    decoded(b"first and second agree, L 8", 2, 2, 8, &two, &m);
-    decoded(b"first and second agree, L 2", 2, 2, 2, &two, &m);
+fn row_of(k: usize) -> [usize; 13]
+    requires { ⌜ k < 53 ⌝ }
+{
+    let rows = CASES;
+    rows[k]
 }
 
-fn sizes() {
-    let m = bytes_of(MASK_24);
-    let values = [1i8; 256];
-    decoded(b"inner kernel 3", 3, 0, 8, &values, &m);
-    decoded(b"outer kernel 255", 0, 255, 8, &values, &m);
-    decoded(b"L 0", 0, 0, 0, &values, &m);
-    decoded(b"L 9", 0, 0, 9, &values, &m);
-    let few = [1i8; 255];
-    decoded(b"255 values", 0, 0, 8, &few, &m);
-    let short = [0xffu8; 31];
-    decoded(b"mask of 31", 0, 0, 8, &values, &short);
-}
-
-fn masks() {
-    let values = [1i8; 256];
-    let none = bytes_of(NONE);
-    decoded(b"k 0", 0, 0, 8, &values, &none);
-    let twelve = bytes_of(LAST_12);
-    decoded(b"k 12", 0, 0, 8, &values, &twelve);
-    let eight = bytes_of(LAST_8);
-    decoded(b"k 8", 0, 0, 8, &values, &eight);
-    let sixteen = bytes_of(LAST_16);
-    decoded(b"k 16", 0, 0, 8, &values, &sixteen);
-}
-
-// Scratch of 8,191, 8,192 and 8,193 bytes, and payloads of two and three bytes, where three are needed.
-fn rooms() {
-    let m = bytes_of(MASK_24);
-    let values = values_of(TWO, NONE);
-    let mut below = [0xa5u8; 8191];
-    let mut kept = [0x5au8; 3];
-    lent(b"scratch 8191", &values, &m, &mut below, &mut kept);
-    let mut exact = [0xa5u8; 8192];
-    let mut three = [0x5au8; 3];
-    lent(
-        b"scratch 8192, payload 3",
-        &values,
-        &m,
-        &mut exact,
-        &mut three,
-    );
-    let mut past = [0xa5u8; 8193];
-    let mut four = [0x5au8; 4];
-    lent(
-        b"scratch 8193, payload 4",
-        &values,
-        &m,
-        &mut past,
-        &mut four,
-    );
-    let mut whole = [0xa5u8; 8193];
-    let mut two = [0x5au8; 2];
-    lent(b"payload 2", &values, &m, &mut whole, &mut two);
-}
-
-// The same where no checksum agrees.
-fn wrong_rooms() {
-    let m = bytes_of(MASK_24);
-    let wrong = values_of(WRONG, NONE);
-    let mut whole = [0xa5u8; 8193];
-    let mut two = [0x5au8; 2];
-    lent(
-        b"wrong checksum, payload 2",
-        &wrong,
-        &m,
-        &mut whole,
-        &mut two,
-    );
-    let mut past = [0xa5u8; 8193];
-    let mut four = [0x5au8; 4];
-    lent(
-        b"wrong checksum, payload 4",
-        &wrong,
-        &m,
-        &mut past,
-        &mut four,
+// A case with as much of the buffers as it asks for.
+fn lent(
+    label: &[u8],
+    row: [usize; 13],
+    values: &[i8],
+    mask: &[u8],
+    scratch: &mut [u8],
+    payload: &mut [u8],
+)
+    requires { ⌜ (length (now values) ≡ 256) × (length (now mask) ≡ 32) × (length (now scratch) ≡ 8200) × (length (now payload) ≡ 36) ⌝ }
+{
+    let count = row[9] % 257;
+    let bytes = row[10] % 33;
+    let scratch_room = row[11] % 8201;
+    let payload_room = row[12] % 37;
+    decoded(
+        label,
+        plan_of(row),
+        row[4],
+        &values[..count],
+        &mask[..bytes],
+        &mut scratch[..scratch_room],
+        &mut payload[..payload_room],
     );
 }
 
-// The value -128 at two places.
-fn outside(heard: [u64; 4]) -> [i8; 256] {
-    let mut values = values_of(heard, NONE);
-    values[30] = -128;
-    values[200] = -128;
-    values
-}
-
-// Two conditions at once: the first in checking order counts.
-fn two_conditions() {
-    let m = bytes_of(MASK_24);
-    let none = bytes_of(NONE);
-    let few = [-128i8; 255];
-    decoded(b"1 and 11", 3, 0, 9, &few, &m);
-    decoded(b"11 and 2", 0, 0, 0, &few, &m);
-    decoded(b"2 and 3", 0, 0, 8, &few, &none);
-}
-
-// The same, with values that lie outside.
-fn more_conditions() {
-    let values = outside(WRONG);
-    let twelve = bytes_of(LAST_12);
-    decoded(b"3 and 12", 2, 2, 8, &values, &twelve);
-    let sixteen = bytes_of(LAST_16);
-    let mut below = [0xa5u8; 8191];
-    let mut one = [0x5au8; 1];
-    lent(b"12 and 5", &values, &sixteen, &mut below, &mut one);
-}
-
-fn last_conditions() {
-    let values = outside(WRONG);
-    let m = bytes_of(MASK_24);
-    let mut short = [0xa5u8; 8191];
-    let mut three = [0x5au8; 3];
-    lent(b"5 and 6", &values, &m, &mut short, &mut three);
-    decoded(b"6 and 13", 2, 2, 8, &values, &m);
+// Case k of the tables.
+fn run(k: usize)
+    requires { ⌜ k < 53 ⌝ }
+{
+    let label = label_of(k);
+    let row = row_of(k);
+    let values = values_of(word_of(row[5]), word_of(row[6]), row[8]);
+    let mask = bytes_of(word_of(row[7]));
+    let mut scratch = [0xa5u8; 8200];
+    let mut payload = [0x5au8; 36];
+    lent(&label, row, &values, &mask, &mut scratch, &mut payload);
 }
 
 fn main() {
-    second_cases();
-    late_cases();
-    single_cases();
-    wrong_cases();
-    several_cases();
-    sizes();
-    masks();
-    rooms();
-    wrong_rooms();
-    two_conditions();
-    more_conditions();
-    last_conditions();
+    let mut k: usize = 0;
+    while k < 53 {
+        run(k);
+        k += 1;
+    }
 }

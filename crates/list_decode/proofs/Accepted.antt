@@ -6,7 +6,7 @@ use Prim.Native.Nat.{ℕ, _+_, _-_, _*_, _/_, _≤_, _<_}
 use native.Mathlib.Decide.{decLt}
 use native.Mathlib.Omega.{arith}
 use borrow.Author.Tests.{not-false, eqb-true, ltb-false}
-use lib.Dec.{ltb}
+use lib.Dec.{eqb, ltb}
 use lib.IntN.{ℤ}
 use lib.ListN.{length, getD, drop, replicate, length-replicate}
 use lib.Seq.{drop-drop}
@@ -19,16 +19,16 @@ use Rattle.answer.proofs.Settle.{None, none-of, settle-none, settle-stopped, af
 use Rattle.mask.specs.Mask.{marked, badMask, payloadBytes}
 use Rattle.mask.proofs.Mask.{bytes-marked, bytes-eighth}
 use Rattle.polar.specs.Code.{channel}
-use Rattle.list.specs.Paths.{paths}
 use Rattle.list.specs.Best.{IsBestAt, BestFirst, begins, empty}
 use Rattle.list.proofs.Paths.{paths-long}
 use Rattle.list.proofs.Best.{best-first, best-only, best-cong}
 use Rattle.folds.specs.Range.{firstOutside}
 use Rattle.folds.proofs.Range.{outside-le}
-use Rattle.kernel.specs.Jobs.{isPair}
-use Rattle.kernel.proofs.Checks.{pair-lt}
+use Rattle.plan.specs.declared.Plan.{Plan}
+use Rattle.plan.specs.Plan.{badKernels}
+use Rattle.plan.proofs.Layered.{kernels-known}
 use Rattle.grid.specs.Grid.{rowsBits}
-use Rattle.frame.specs.Frames.{frameCode}
+use Rattle.plan.specs.Pairs.{frameCode}
 use Rattle.path.specs.Path.{HasSymbols, pathAt}
 use Rattle.path.specs.declared.Path.{Path}
 use Rattle.decode.specs.Jobs.{valueCheck}
@@ -36,6 +36,7 @@ use Rattle.list_run.specs.Run.{framePaths, ListRun}
 use Rattle.agreeing.specs.Agreeing.{payloadOf, agreesAt}
 use Rattle.list_decode.specs.Exact.{BestAgreeing}
 use Rattle.list_decode.specs.Jobs.{listDecodeChecks, finalPaths, finalPenalty, agreeingPaths, verdictOf, firstPayload, listDecode}
+use Rattle.list_decode.proofs.Two.{inner, outer, two-least, two-paths}
 use Rattle.agreeing.specs.Found.{symbolsAt, recordAgrees, recordPenalty, BestRecord, HandedOut}
 
 -- Values that pass: none is outside.
@@ -44,51 +45,54 @@ unfolding valueCheck
 inside-all values e h = omega (arith, ltb-false (firstOutside 127 values) (length values) h, outside-le 127 values)
 
 -- Inputs that pass all checks of list decoding.
-pub record ListAccepted (a b L : ℕ) (values : List ℤ) (mask : List ℕ) (scratchRoom payloadRoom : ℕ) : Type 0 where
-  pub inner : a < 3
-  pub outer : b < 3
+pub record ListAccepted (p : Plan) (L : ℕ) (values : List ℤ) (mask : List ℕ) (scratchRoom payloadRoom : ℕ) : Type 0 where
+  pub two : p .layers ≡ 2
+  pub inner-known : inner p < 3
+  pub outer-known : outer p < 3
   pub some-paths : 1 ≤ L
   pub few-paths : L ≤ 8
   pub count : length values ≡ 256
   pub inside : firstOutside 127 values ≡ 256
   pub mask-count : length mask ≡ 32
-  pub bytes-are : 8 * payloadBytes mask ≡ marked mask
-  pub enough : 3 ≤ payloadBytes mask
-  pub payload-room : payloadBytes mask ≤ payloadRoom
+  pub bytes-are : 8 * payloadBytes 32 mask ≡ marked mask
+  pub enough : 3 ≤ payloadBytes 32 mask
+  pub payload-room : payloadBytes 32 mask ≤ payloadRoom
   pub scratch-room : 8192 ≤ scratchRoom
 
 -- Each byte of its payload fills eight marked phases.
-pub marked-bytes : (mask : List ℕ) → length mask ≡ 32 → badMask mask ≡ false → 8 * payloadBytes mask ≡ marked mask
+pub marked-bytes : (mask : List ℕ) → length mask ≡ 32 → badMask mask ≡ false → 8 * payloadBytes 32 mask ≡ marked mask
 unfolding marked
-marked-bytes mask l g = bytes-marked mask l g
+marked-bytes mask l g = bytes-marked 32 mask l g
 
-pub list-passes : (a b L : ℕ) (values : List ℤ) (mask : List ℕ) (scratchRoom payloadRoom : ℕ) → None (listDecodeChecks a b L values mask scratchRoom payloadRoom)
-    → ListAccepted a b L values mask scratchRoom payloadRoom
+pub list-passes : (p : Plan) (L : ℕ) (values : List ℤ) (mask : List ℕ) (scratchRoom payloadRoom : ℕ) → None (listDecodeChecks p L values mask scratchRoom payloadRoom)
+    → ListAccepted p L values mask scratchRoom payloadRoom
 unfolding listDecodeChecks
-list-passes a b L values mask scratchRoom payloadRoom n =
-    let known : not (isPair a b) ≡ false = search (n .0, n .1 .0) in
-    let size : (ltb L 1 || ltb 8 L) ≡ false = search (n .0, n .1 .0) in
-    let few : ltb (marked mask) 24 ≡ false = search (n .1 .1 .1 .1 .0, n .1 .1 .1 .1 .1 .0) in
-    let room : (ltb payloadRoom (marked mask / 8) || ltb scratchRoom 8192) ≡ false = search (n .1 .1 .1 .1 .0, n .1 .1 .1 .1 .1 .0) in
-    let p = pair-lt a b (not-false _ known) in
+list-passes p L values mask scratchRoom payloadRoom n =
+    let layered : not (eqb (p .layers) 2) ≡ false = search (n .0, n .1 .0, n .1 .1 .0) in
+    let known : badKernels p ≡ false = search (n .0, n .1 .0, n .1 .1 .0) in
+    let size : (ltb L 1 || ltb 8 L) ≡ false = search (n .0, n .1 .0, n .1 .1 .0) in
+    let few : ltb (marked mask) 24 ≡ false = search (n .1 .1 .1 .1 .1 .0, n .1 .1 .1 .1 .1 .1 .0) in
+    let room : (ltb payloadRoom (marked mask / 8) || ltb scratchRoom 8192) ≡ false = search (n .1 .1 .1 .1 .1 .0, n .1 .1 .1 .1 .1 .1 .0) in
+    let t = eqb-true (p .layers) 2 (not-false _ layered) in
     let s = or-eq-false (ltb L 1) (ltb 8 L) size in
-    let h = or-eq-false _ _ (n .1 .1 .0) in
+    let h = or-eq-false _ _ (n .1 .1 .1 .0) in
     let e = eqb-true (length values) 256 (not-false _ (h .0)) in
     let l = eqb-true (length mask) 32 (not-false _ (h .1)) in
-    let g = n .1 .1 .1 .0 in
-    let k : 8 * payloadBytes mask ≡ marked mask = marked-bytes mask l g in
+    let g = n .1 .1 .1 .1 .0 in
+    let k : 8 * payloadBytes 32 mask ≡ marked mask = marked-bytes mask l g in
     let r = or-eq-false (ltb payloadRoom (marked mask / 8)) (ltb scratchRoom 8192) room in
     record {
-      inner = p .0;
-      outer = p .1;
+      two = t;
+      inner-known = kernels-known p known 0 (omega (arith, t));
+      outer-known = kernels-known p known 1 (omega (arith, t));
       some-paths = ltb-false L 1 (s .0);
       few-paths = ltb-false 8 L (s .1);
       count = e;
-      inside = inside-all values e (n .1 .1 .1 .1 .1 .1 .0);
+      inside = inside-all values e (n .1 .1 .1 .1 .1 .1 .1 .0);
       mask-count = l;
       bytes-are = k;
       enough = omega (arith, ltb-false (marked mask) 24 few);
-      payload-room = rw (bytes-eighth mask l g) (ltb-false payloadRoom (marked mask / 8) (r .0));
+      payload-room = rw (bytes-eighth 32 mask l g) (ltb-false payloadRoom (marked mask / 8) (r .0));
       scratch-room = ltb-false scratchRoom 8192 (r .1);
     }
 
@@ -98,22 +102,22 @@ whole p path e h =
     let z : 256 - length p ≡ 0 = omega arith in
     h ∙ ap (λ k. p ++ replicate k false) z ∙ append-nil p
 
-module _ (a b L : ℕ) (values : List ℤ) (mask oldScratch oldPayload : List ℕ) where
+module _ (p : Plan) (L : ℕ) (values : List ℤ) (mask oldScratch oldPayload : List ℕ) where
   abbrev checks : List Check
-  checks = listDecodeChecks a b L values mask (length oldScratch) (length oldPayload)
+  checks = listDecodeChecks p L values mask (length oldScratch) (length oldPayload)
 
   abbrev finals : List (List Bool)
-  finals = finalPaths a b L values mask
+  finals = finalPaths p L values mask
 
   abbrev total : List Bool → ℕ
-  total = finalPenalty a b values
+  total = finalPenalty p values
 
   abbrev agreeing : List (List Bool)
-  agreeing = agreeingPaths a b L values mask
+  agreeing = agreeingPaths p L values mask
 
   -- What the job promises of a verdict and of what the buffers hold then.
   abbrev Decoded : Verdict → List ℕ → List ℕ → Type 0
-  Decoded v scratch payload = listDecode a b L values mask oldScratch oldPayload ≡ (v, scratch, payload)
+  Decoded v scratch payload = listDecode p L values mask oldScratch oldPayload ≡ (v, scratch, payload)
 
   -- A job that is refused by a check leaves its buffers.
   pub list-refused : (v : Verdict) → v ≡ settle checks done → isAccepted v ≡ false → Decoded v oldScratch oldPayload
@@ -126,11 +130,11 @@ module _ (a b L : ℕ) (values : List ℤ) (mask oldScratch oldPayload : List �
       ∙ ap₂ (λ (x y : List ℕ). (v, x, y)) (after-refused v oldScratch zeros r) (after-refused v oldPayload new r)
 
   module _ (ok : isAccepted (settle checks done) ≡ true) where
-    pub list-accepted : ListAccepted a b L values mask (length oldScratch) (length oldPayload)
-    list-accepted = list-passes a b L values mask (length oldScratch) (length oldPayload) (none-of checks done ok)
+    pub list-accepted : ListAccepted p L values mask (length oldScratch) (length oldPayload)
+    list-accepted = list-passes p L values mask (length oldScratch) (length oldPayload) (none-of checks done ok)
 
     -- An accepted job answers the verdict of the agreeing paths and leaves zeros in scratch.
-    pub answered : (us : List (List Bool)) → agreeing ≡ us → listDecode a b L values mask oldScratch oldPayload
+    pub answered : (us : List (List Bool)) → agreeing ≡ us → listDecode p L values mask oldScratch oldPayload
         ≡ (verdictOf total us, replicate 8192 0 ++ drop 8192 oldScratch, after (verdictOf total us) oldPayload (firstPayload mask us))
     unfolding listDecode
     answered us e =
@@ -143,27 +147,30 @@ module _ (a b L : ℕ) (values : List ℤ) (mask oldScratch oldPayload : List �
         ∙ ap (λ k. (v, zeros ++ drop k oldScratch, after v oldPayload new)) (length-replicate {A = ℕ} 8192 0)
         ∙ ap (λ (l : List (List Bool)). (verdictOf total l, replicate 8192 0 ++ drop 8192 oldScratch, after (verdictOf total l) oldPayload (firstPayload mask l))) e
 
-    module _ (marks : List ℕ) (n r : ℕ) (ran : List ℕ) (em : rowsBits marks ≡ unpack mask) (run : ListRun a b L values marks n ran) (best : BestRecord mask ran n n r) where
-      same-paths : framePaths a b L values marks 256 ≡ finals
-      same-paths = ap (λ w. paths (frameCode a b) (channel values) (bit w) L 256) em
+    module _ (marks : List ℕ) (n r : ℕ) (ran : List ℕ) (em : rowsBits 16 marks ≡ unpack mask) (run : ListRun (inner p) (outer p) L values marks n ran) (best : BestRecord mask ran n n r) where
+      two : p .layers ≡ 2
+      two = list-accepted .two
+
+      same-paths : framePaths (inner p) (outer p) L values marks 256 ≡ finals
+      same-paths = two-paths p two L values mask marks em
 
       final-count : length finals ≡ n
       final-count = ap (λ (l : List (List Bool)). length l) (sym same-paths) ∙ run .count-is
 
       symbols-are : (i : ℕ) → i < n → symbolsAt ran i ≡ getD finals i []
       symbols-are i l =
-          let li : i < length (framePaths a b L values marks 256) = omega (arith, run .count-is) in
-          whole _ (pathAt i ran) (paths-long (frameCode a b) (channel values) (bit (rowsBits marks)) L 256 i li) (run .listed i li)
+          let li : i < length (framePaths (inner p) (outer p) L values marks 256) = omega (arith, run .count-is) in
+          whole _ (pathAt i ran) (paths-long (frameCode (inner p) (outer p)) (channel values) (bit (rowsBits 16 marks)) L 256 i li) (run .listed i li)
           ∙ ap (λ (l : List (List Bool)). getD l i []) same-paths
 
       penalty-is : (i : ℕ) → i < n → (pathAt i ran) .penalty ≡ total (getD finals i [])
-      penalty-is i l = run .paid i (omega (arith, run .count-is)) ∙ ap (λ (l : List (List Bool)). total (getD l i [])) same-paths
+      penalty-is i l = run .paid i (omega (arith, run .count-is)) ∙ sym (two-least p two values _) ∙ ap (λ (l : List (List Bool)). total (getD l i [])) same-paths
 
       -- The record that was found is that of the first of the agreeing paths;
       first-found : r < n → (rest : List (List Bool)) × (agreeing ≡ getD finals r [] ∷ rest)
       first-found l = go (best-first (agreesAt mask) total [] finals)
         where
-          found : BestAgreeing a b L values mask r
+          found : BestAgreeing p L values mask r
           found =
               subst (λ k. IsBestAt (λ j. agreesAt mask (getD finals j [])) (λ j. total (getD finals j [])) k r) (sym final-count)
               (best-cong (recordAgrees mask ran) (λ j. agreesAt mask (getD finals j [])) (recordPenalty ran) (λ j. total (getD finals j [])) n r (λ j k. ap (agreesAt mask) (symbols-are j k)) penalty-is (best .found l))

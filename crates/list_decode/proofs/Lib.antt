@@ -1,3 +1,4 @@
+pub mod Two
 pub mod Answers
 pub mod Accepted
 pub mod Exact

@@ -14,15 +14,17 @@ use Rattle.list.specs.Sort.{sort}
 use Rattle.list.specs.Best.{filter}
 use Rattle.list.specs.Paths.{paths}
 use Rattle.agreeing.specs.Agreeing.{payloadOf, agreesAt}
-use Rattle.kernel.specs.Jobs.{isPair}
-use Rattle.frame.specs.Frames.{frameCode}
+use Rattle.plan.specs.declared.Plan.{Plan}
+use Rattle.plan.specs.Plan.{badKernels, planCode, symbolCount}
 use Rattle.decode.specs.Jobs.{valueCheck}
 
--- The checks of list decoding, in checking order: the pair, a list size L outside 1 to 8, the lengths of values and mask, the mask,
--- a mask of fewer than 24 marked phases, the room for payload and scratch, and a value outside the range.
-unfoldable pub listDecodeChecks : ℕ → ℕ → ℕ → List ℤ → List ℕ → ℕ → ℕ → List Check
-listDecodeChecks a b L values mask scratchRoom payloadRoom =
-    condition 1 (not (isPair a b))
+-- The checks of list decoding, in checking order: a plan of another number of layers than two, its kernels, a list size L outside
+-- 1 to 8, the lengths of values and mask, the mask, a mask of fewer than 24 marked phases, the room for payload and scratch, and a value
+-- outside the range.
+unfoldable pub listDecodeChecks : Plan → ℕ → List ℤ → List ℕ → ℕ → ℕ → List Check
+listDecodeChecks p L values mask scratchRoom payloadRoom =
+    condition 14 (not (eqb (p .layers) 2))
+    ∷ condition 1 (badKernels p)
     ∷ condition 11 (ltb L 1 || ltb 8 L)
     ∷ condition 2 (not (eqb (length values) 256) || not (eqb (length mask) 32))
     ∷ condition 3 (badMask mask)
@@ -31,18 +33,18 @@ listDecodeChecks a b L values mask scratchRoom payloadRoom =
     ∷ valueCheck values
     ∷ []
 
--- The final paths: those that a list of L keeps after all 256 phases, in their order.
-abbrev pub finalPaths : ℕ → ℕ → ℕ → List ℤ → List ℕ → List (List Bool)
-finalPaths a b L values mask = paths (frameCode a b) (channel values) (bit (unpack mask)) L 256
+-- The final paths: those that a list of L keeps after all phases of the frame, in their order.
+abbrev pub finalPaths : Plan → ℕ → List ℤ → List ℕ → List (List Bool)
+finalPaths p L values mask = paths (planCode p) (channel values) (bit (unpack mask)) L (symbolCount p)
 
 -- The penalty of a final path: the least total of the words that agree with all its symbols.
-abbrev pub finalPenalty : ℕ → ℕ → List ℤ → List Bool → ℕ
-finalPenalty a b values = least (frameCode a b) (channel values)
+abbrev pub finalPenalty : Plan → List ℤ → List Bool → ℕ
+finalPenalty p values = least (planCode p) (channel values)
 
 -- The agreeing paths: the final paths whose checksum agrees, by their final penalty, and those of equal penalty by their position in the
 -- list. The first of them is answered.
-abbrev pub agreeingPaths : ℕ → ℕ → ℕ → List ℤ → List ℕ → List (List Bool)
-agreeingPaths a b L values mask = sort (finalPenalty a b values) (filter (agreesAt mask) (finalPaths a b L values mask))
+abbrev pub agreeingPaths : Plan → ℕ → List ℤ → List ℕ → List (List Bool)
+agreeingPaths p L values mask = sort (finalPenalty p values) (filter (agreesAt mask) (finalPaths p L values mask))
 
 -- The verdict of the agreeing paths, where no check holds: the penalty of the first, or condition 13, that no final path's checksum
 -- agrees.
@@ -55,11 +57,11 @@ abbrev pub firstPayload : List ℕ → List (List Bool) → List ℕ
 firstPayload mask [] = []
 firstPayload mask (u ∷ us) = payloadOf mask u
 
--- List decoding: pair, list size, 256 values and mask to the verdict, the scratch bytes and the payload. Where no check holds the first
+-- List decoding: plan, list size, 256 values and mask to the verdict, the scratch bytes and the payload. Where no check holds the first
 -- 8,192 bytes of scratch are left as zeros, also under 13; the payload is written where a path agrees.
-unfoldable pub listDecode : ℕ → ℕ → ℕ → List ℤ → List ℕ → List ℕ → List ℕ → Verdict × List ℕ × List ℕ
-listDecode a b L values mask oldScratch oldPayload =
-    let checks = listDecodeChecks a b L values mask (length oldScratch) (length oldPayload) in
-    let agreeing = agreeingPaths a b L values mask in
-    let v = settle checks (verdictOf (finalPenalty a b values) agreeing) in
+unfoldable pub listDecode : Plan → ℕ → List ℤ → List ℕ → List ℕ → List ℕ → Verdict × List ℕ × List ℕ
+listDecode p L values mask oldScratch oldPayload =
+    let checks = listDecodeChecks p L values mask (length oldScratch) (length oldPayload) in
+    let agreeing = agreeingPaths p L values mask in
+    let v = settle checks (verdictOf (finalPenalty p values) agreeing) in
     (v, after (settle checks done) oldScratch (replicate 8192 0), after v oldPayload (firstPayload mask agreeing))

@@ -4,11 +4,11 @@ ghost use Rattle.answer.specs.Verdict.{verdict, done, settle};
 ghost use Rattle.mask.specs.Mask.{payloadBytes};
 ghost use Rattle.list_decode.specs.Jobs.{listDecodeChecks, listDecode};
 use answer::Answer;
+use plan::Plan;
 
 // The checks of list decoding, in checking order. A mask that is refused takes no byte; one of fewer than 24 phases takes fewer than 3.
 fn list_check(
-    inner: u8,
-    outer: u8,
+    plan: Plan,
     list: usize,
     values: &[i8],
     mask: &[u8],
@@ -16,10 +16,13 @@ fn list_check(
     scratch_room: usize,
     payload_room: usize,
 ) -> Answer
-    requires { ⌜ bytes ≡ payloadBytes (now mask) ⌝ }
-    ensures { λ r. ⌜ verdict r ≡ settle (listDecodeChecks inner outer list (now (values .entry)) (now (mask .entry)) «scratch_room» «payload_room») done ⌝ }
+    requires { ⌜ bytes ≡ payloadBytes 32 (now mask) ⌝ }
+    ensures { λ r. ⌜ verdict r ≡ settle (listDecodeChecks plan list (now (values .entry)) (now (mask .entry)) «scratch_room» «payload_room») done ⌝ }
 {
-    if !kernel::is_pair(inner, outer) {
+    if plan.layers != 2 {
+        return Answer::BadLayers;
+    }
+    if !plan::has_kernels(plan) {
         return Answer::NoKernel;
     }
     if (list < 1) | (8 < list) {
@@ -47,20 +50,18 @@ fn list_check(
 // List decoding: the payload and the penalty of the best agreeing path, which is the final path of least penalty whose checksum agrees,
 // and of equal penalties the first. The first 8,192 bytes of scratch are left as zeros, also where no checksum agrees.
 pub fn list_decode(
-    inner: u8,
-    outer: u8,
+    plan: Plan,
     list: usize,
     values: &[i8],
     mask: &[u8],
     scratch: &mut [u8],
     payload: &mut [u8],
 ) -> Answer
-    ensures { λ r. ⌜ listDecode inner outer list (now (values .entry)) (now (mask .entry)) (now (scratch .entry)) (now (payload .entry)) ≡ (verdict r, now (scratch .exit), now (payload .exit)) ⌝ }
+    ensures { λ r. ⌜ listDecode plan list (now (values .entry)) (now (mask .entry)) (now (scratch .entry)) (now (payload .entry)) ≡ (verdict r, now (scratch .exit), now (payload .exit)) ⌝ }
 {
-    let bytes = mask::payload_bytes(mask);
+    let bytes = mask::payload_bytes(32, mask);
     let answer = list_check(
-        inner,
-        outer,
+        plan,
         list,
         values,
         mask,
@@ -71,12 +72,15 @@ pub fn list_decode(
     if !answer::accepted(answer) {
         return answer;
     }
+    let kernels = plan.kernels;
+    let mut marks = [0u16; 16];
+    grid::rows_of(mask, &mut marks);
     let n = list_run::list_run(
-        inner as usize,
-        outer as usize,
+        kernels[0] as usize,
+        kernels[1] as usize,
         list,
         values,
-        grid::rows_of(mask),
+        marks,
         scratch,
     );
     let i = agreeing::best_agreeing(scratch, n, mask, bytes);

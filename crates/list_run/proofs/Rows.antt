@@ -20,14 +20,14 @@ use Rattle.kernel.specs.Kernels.{kernel}
 use Rattle.kernel.specs.Rows.{rowSum, table}
 use Rattle.grid.specs.Grid.{rowsBits}
 use Rattle.grid.proofs.Grid.{rows-bits-at}
-use Rattle.frame.specs.Frames.{frameCode}
+use Rattle.plan.specs.Pairs.{frameCode}
 use Rattle.lane.specs.Lanes.{laneBit, laneCosts}
 use Rattle.lane_phases.specs.Rows.{column as laneColumn, KeptLane}
 use Rattle.lane_phases.proofs.Phases.{held-kept-lane}
 use Rattle.lane_totals.specs.Totals.{Again}
-use Rattle.frame_run.proofs.Prefixes.{column-next, planes-next}
-use Rattle.frame_run.proofs.Premises.{word-of}
-use Rattle.frame_run.proofs.Layered.{pair-is, row-least}
+use Rattle.pair_run.proofs.Prefixes.{column-next, planes-next}
+use Rattle.pair_run.proofs.Premises.{word-of}
+use Rattle.pair_run.proofs.Layered.{pair-is, row-least}
 use Rattle.list.specs.Paths.{phase, paths}
 use Rattle.list.proofs.Sort.{all-at}
 use Rattle.list.proofs.Paths.{all-long, paths-long}
@@ -67,7 +67,7 @@ module _ (a b L : ℕ) (ys : List ℤ) (marks : List ℕ) (costs : List (List (L
   ps = framePaths a b L ys marks (16 * r)
 
   long-at : (i : ℕ) → i < length ps → length (getD ps i []) ≡ 16 * r
-  long-at i l = paths-long C m (bit (rowsBits marks)) L (16 * r) i l
+  long-at i l = paths-long C m (bit (rowsBits 16 marks)) L (16 * r) i l
 
   turned : (n : ℕ) → 16 * n ≡ n * 16
   turned n = omega arith
@@ -95,12 +95,12 @@ module _ (a b L : ℕ) (ys : List ℤ) (marks : List ℕ) (costs : List (List (L
 
       qs-are : advance (least C m) L (λ s. bit (bits 16 (getD marks r 0)) s) 16 ps ≡ qs
       qs-are =
-          advance-cong (least C m) L _ (λ s. bit (rowsBits marks) (16 * r + s)) 16 ps (λ s l. sym (rows-bits-at marks r s lr l))
-          ∙ sym (paths-advance C m (bit (rowsBits marks)) L (16 * r) 16)
+          advance-cong (least C m) L _ (λ s. bit (rowsBits 16 marks) (16 * r + s)) 16 ps (λ s l. sym (rows-bits-at 16 marks r s lr l))
+          ∙ sym (paths-advance C m (bit (rowsBits 16 marks)) L (16 * r) 16)
           ∙ ap (framePaths a b L ys marks) (sym more)
 
       done : RowList (least C m) r 16 ps qs count scratch′ home
-      done = subst (λ (l : List (List Bool)). RowList (least C m) r 16 ps l count scratch′ home) qs-are (d .list-so ps (least C m) (g .count-is) (all-long C m (bit (rowsBits marks)) L (16 * r)) (g .listed) prices)
+      done = subst (λ (l : List (List Bool)). RowList (least C m) r 16 ps l count scratch′ home) qs-are (d .list-so ps (least C m) (g .count-is) (all-long C m (bit (rowsBits 16 marks)) L (16 * r)) (g .listed) prices)
 
       module _ (planes′ : List (List ℕ)) (held′ : List (List (List (List ℕ)))) (next : NextPlanes (getD table a []) r count scratch′ home planes planes′) where
         -- A path's planes with the word of its row are its columns.
@@ -215,4 +215,4 @@ pub rows-clean : (a b L : ℕ) (ys : List ℤ) (marks : List ℕ) (costs : List 
     → AfterRows a b L ys marks costs scratch₀ r n planes held scratch → Clean (16 * r) n scratch
 rows-clean a b L ys marks costs scratch₀ r n planes held scratch g =
     let ps = framePaths a b L ys marks (16 * r) in
-    subst (λ k. Clean (16 * r) k scratch) (g .count-is) (listed-clean (16 * r) ps scratch (all-long (frameCode a b) (channel ys) (bit (rowsBits marks)) L (16 * r)) (g .listed))
+    subst (λ k. Clean (16 * r) k scratch) (g .count-is) (listed-clean (16 * r) ps scratch (all-long (frameCode a b) (channel ys) (bit (rowsBits 16 marks)) L (16 * r)) (g .listed))

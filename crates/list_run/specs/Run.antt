@@ -14,7 +14,7 @@ use Rattle.polar.specs.Stages.{rows, column}
 use Rattle.kernel.specs.Kernels.{kernel, kernelCode}
 use Rattle.kernel.specs.Rows.{rowSum, table}
 use Rattle.grid.specs.Grid.{rowsBits}
-use Rattle.frame.specs.Frames.{frameCode}
+use Rattle.plan.specs.Pairs.{frameCode}
 use Rattle.lane.specs.Lanes.{laneCosts, LanesWithin}
 use Rattle.lane_phases.specs.Rows.{column as laneColumn, HeldLane, KeptLane}
 use Rattle.lane_step.specs.Step.{Halves}
@@ -92,7 +92,7 @@ pub record RowDone (k r L : ℕ) (mark : ℕ → Bool) (n : ℕ) (scratch₀ : L
 
 -- The paths of a frame after n phases: inner kernel a, outer kernel b, a list of L.
 abbrev pub framePaths : ℕ → ℕ → ℕ → List ℤ → List ℕ → ℕ → List (List Bool)
-framePaths a b L values marks n = paths (frameCode a b) (channel values) (bit (rowsBits marks)) L n
+framePaths a b L values marks n = paths (frameCode a b) (channel values) (bit (rowsBits 16 marks)) L n
 
 -- What the run leaves: how many paths there are at the end, and their records.
 pub record ListRun (a b L : ℕ) (values : List ℤ) (marks : List ℕ) (count : ℕ) (scratch : List ℕ) : Type 0 where

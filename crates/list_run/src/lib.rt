@@ -343,7 +343,7 @@ pub fn list_run(
     let outer_shapes = step::shapes_of(outer);
     let outer_tables = step::tables_of(outer);
     let matrix = kernel::kernel_rows(inner as u8);
-    let costs = frame_run::outer_costs(values);
+    let costs = lane_costs::outer_costs(values, 0);
     let halves = lane_nodes::free_eight(&costs);
     first_path(scratch);
     let mut planes = [[0u16; 16]; 8];

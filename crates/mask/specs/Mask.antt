@@ -3,7 +3,7 @@ use mathlib.Core.Bool.{Bool, true, false, not, _||_}
 use mathlib.Core.List.{List}
 use Prim.Native.Nat.{ℕ, _/_, _%_}
 use lib.Dec.{eqb}
-use lib.ListN.{length, take}
+use lib.ListN.{length}
 use Rattle.bits.specs.Packed.{unpack}
 use Rattle.payload.specs.Payload.{ones}
 
@@ -15,14 +15,6 @@ marked mask = ones (unpack mask)
 unfoldable pub badMask : List ℕ → Bool
 badMask mask = eqb (marked mask) 0 || not (eqb (marked mask % 8) 0)
 
--- How many bytes of payload a mask takes: k/8, or none with a wrong length or a refused mask.
-unfoldable pub payloadBytes : List ℕ → ℕ
-payloadBytes mask = elim (not (eqb (length mask) 32) || badMask mask) [ true ↦ 0 | false ↦ marked mask / 8 ]
-
--- How many of a caller's n bytes the payload part has: none where they are not 32.
-unfoldable pub partLength : List ℕ → ℕ → ℕ
-partLength mask n = elim (eqb n 32) [ true ↦ payloadBytes mask | false ↦ 0 ]
-
--- The payload part: the first k/8 of the caller's 32 bytes, or none of them with a wrong length or a refused mask.
-unfoldable pub payloadPart : List ℕ → List ℕ → List ℕ
-payloadPart mask bytes = take (partLength mask (length bytes)) bytes
+-- How many bytes of payload a mask of n bytes takes: k/8, or none with another length or a refused mask.
+unfoldable pub payloadBytes : ℕ → List ℕ → ℕ
+payloadBytes n mask = elim (not (eqb (length mask) n) || badMask mask) [ true ↦ 0 | false ↦ marked mask / 8 ]

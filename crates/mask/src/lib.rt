@@ -1,13 +1,14 @@
-// Masks of information phases, and the payload part of a caller's bytes.
+// Masks of information phases.
 ghost use mathlib.Core.Path.{_≡_};
-ghost use denote.Ref.{ptr};
-ghost use Rattle.mask.specs.Mask.{payloadBytes, partLength, payloadPart};
+ghost use Prim.Native.Nat.{_≤_};
+ghost use Rattle.mask.specs.Mask.{payloadBytes};
 
-// How many bytes of payload a mask takes: 0 with a wrong length or a refused mask.
-pub fn payload_bytes(mask: &[u8]) -> usize
-    ensures { λ r. ⌜ r ≡ payloadBytes (now (mask .entry)) ⌝ }
+// How many bytes of payload a mask of n bytes takes: 0 with another length or a refused mask.
+pub fn payload_bytes(n: usize, mask: &[u8]) -> usize
+    requires { ⌜ n ≤ 4096 ⌝ }
+    ensures { λ r. ⌜ r ≡ payloadBytes n (now (mask .entry)) ⌝ }
 {
-    if mask.len() != 32 {
+    if mask.len() != n {
         return 0;
     }
     let k = payload::count(mask);
@@ -15,22 +16,4 @@ pub fn payload_bytes(mask: &[u8]) -> usize
         return 0;
     }
     k / 8
-}
-
-// How many of a caller's n bytes the payload part has.
-pub fn part_length(mask: &[u8], n: usize) -> usize
-    ensures { λ r. ⌜ r ≡ partLength (now (mask .entry)) n ⌝ }
-{
-    if n != 32 {
-        return 0;
-    }
-    payload_bytes(mask)
-}
-
-// Payload part: the first k/8 of the caller's 32 bytes, the part itself.
-pub fn payload_part<'a, 'b>(mask: &'b [u8], bytes: &'a [u8]) -> &'a [u8]
-    ensures { λ r. ⌜ (now r ≡ payloadPart (now (mask .entry)) (now (bytes .entry))) × (ptr r ≡ ptr (bytes .entry)) × (now (bytes .exit) ≡ now (bytes .entry)) × (now (mask .exit) ≡ now (mask .entry)) ⌝ }
-{
-    let n = part_length(mask, bytes.len());
-    &bytes[..n]
 }

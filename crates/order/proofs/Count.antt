@@ -54,17 +54,17 @@ marks-count (suc n) l =
     ∙ ap suc (marks-count n (omega arith))
 
 -- The mask for p bytes takes p bytes of payload.
-pub information-bytes : (p : ℕ) → p ≤ 32 → payloadBytes (pack 32 (informationBits p)) ≡ p
+pub information-bytes : (p : ℕ) → p ≤ 32 → payloadBytes 32 (pack 32 (informationBits p)) ≡ p
 unfolding marked informationBits
 information-bytes p l =
     let mask = pack 32 (informationBits p) in
     let e : marked mask ≡ 8 * p = ap ones (unpack-pack 32 (informationBits p) (length-information p)) ∙ marks-count (8 * p) (omega arith) in
-    omega (arith, whole-bytes mask (length-pack 32 (informationBits p)) (omega arith))
+    omega (arith, whole-bytes 32 mask (length-pack 32 (informationBits p)) (omega arith))
 
 -- Where the job information mask is accepted for p bytes, what it leaves begins with a mask of 32 bytes that takes p bytes of
 -- payload, and that no job refuses.
 pub mask-takes : (p : ℕ) (out : List ℕ) → (informationMask p out) .0 ≡ done
-    → let mask = take 32 ((informationMask p out) .1) in (length mask ≡ 32) × (payloadBytes mask ≡ p) × (badMask mask ≡ false)
+    → let mask = take 32 ((informationMask p out) .1) in (length mask ≡ 32) × (payloadBytes 32 mask ≡ p) × (badMask mask ≡ false)
 unfolding informationMask informationChecks
 mask-takes p out ok =
     let new = pack 32 (informationBits p) in
@@ -75,4 +75,4 @@ mask-takes p out ok =
     let front : take 32 ((informationMask p out) .1) ≡ new =
     ap (take 32) (after-front _ out new 32 (length-pack 32 (informationBits p)) ok) ∙ take-at new (drop 32 out) 32 (length-pack 32 (informationBits p)) in
     let e = information-bytes p small in
-    rw front (length-pack 32 (informationBits p), e, (bytes-accepted new (omega arith)) .1)
+    rw front (length-pack 32 (informationBits p), e, (bytes-accepted 32 new (omega arith)) .1)

@@ -2,7 +2,7 @@
 use mathlib.Core.Path.{_≡_, refl, ap, _∙_}
 use lib.Dec.{eqb}
 use Rattle.answer.specs.declared.Answer.{Answer}
-use Rattle.answer.specs.declared.Answer.the-variants.{Done, Word, Penalty, NoKernel, WrongLength, BadMask, WrongPayload, ShortOutput, ValueOutOfRange, NotFinite, WrongSize, FrozenOne, BadScale, WrongListSize, FewMarks, NoAgreeingPath}
+use Rattle.answer.specs.declared.Answer.the-variants.{Done, Word, Penalty, NoKernel, WrongLength, BadMask, WrongPayload, ShortOutput, ValueOutOfRange, NotFinite, WrongSize, FrozenOne, BadScale, WrongListSize, FewMarks, NoAgreeingPath, BadLayers}
 use Rattle.answer.specs.Verdict.{verdict, numberOf, isAccepted}
 use borrow.Author.Needs.{needs}
 use Rattle.answer.proofs.accepted.Statement.{statement}
@@ -25,6 +25,7 @@ by-number BadScale = refl
 by-number WrongListSize = refl
 by-number FewMarks = refl
 by-number NoAgreeingPath = refl
+by-number BadLayers = refl
 
 number-requires : tie.Need-number-requires
 number-requires c κs = search needs

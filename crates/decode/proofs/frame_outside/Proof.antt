@@ -1,21 +1,23 @@
--- `decode::frame_outside` meets its contract. Where a value is outside, the search has passed j blocks. Assumes nothing.
-use mathlib.Core.Path.{_≡_, sym, ap, _∙_}
-use Prim.Native.Nat.{_+_, _-_, _*_, _≤_, _<_}
+-- `decode::frame_outside` meets its contract. Where a value is outside, the search has passed i values. Assumes nothing.
+use mathlib.Core.Path.{_≡_, sym, _∙_}
+use Prim.Native.Nat.{_-_, _≤_}
 use native.Mathlib.Nat.{zero-add}
 use native.Mathlib.Omega.{arith}
-use lib.ListN.{length}
+use lib.IntN.{pos}
+use lib.ListN.{length, getD}
 use Rattle.folds.specs.Range.{firstOutside}
-use Rattle.folds.proofs.Range.{outside-le, Passed, found-in, passed-block, passed-all}
-use borrow.Author.Needs.{needs}
+use Rattle.folds.proofs.Range.{outside-le, Passed, found, passed, passed-all}
+use borrow.Author.Needs.{needs, sfits-of}
 use borrow.Author.Tests.{ltb-false, not-true}
+use Rattle.decode.proofs.Outside.{says-outside, says-inside}
 use Rattle.decode.proofs.frame_outside.Statement.{statement}
 use Rattle.decode.proofs.frame_outside.Tie as tie
 
 abbrev Inv-loop : tie.InvT-loop
-Inv-loop values j₀ j = (j ≤ 16) × Passed 127 values (16 * j)
+Inv-loop values i₀ i = (i ≤ length values) × Passed 127 values i
 
 abbrev μ-loop : tie.MeasureT-loop
-μ-loop values j₀ j = 16 - j
+μ-loop values i₀ i = length values - i
 
 some-outside-requires : tie.Need-some-outside-requires Inv-loop μ-loop
 some-outside-requires c κs = search needs
@@ -23,61 +25,37 @@ some-outside-requires c κs = search needs
 returns : tie.Need-returns Inv-loop μ-loop
 returns c =
     let ys = c .before .before .args .values .now in
-    let n : 256 ≤ firstOutside 127 ys = ltb-false (firstOutside 127 ys) 256 (sym (c .before .some-outside .ensures) ∙ not-true _ (c .if1 .taken)) in
+    let n : length ys ≤ firstOutside 127 ys = ltb-false (firstOutside 127 ys) (length ys) (sym (c .before .some-outside .ensures) ∙ not-true _ (c .if1 .taken)) in
     omega (arith, outside-le 127 ys)
 
 loop-holds : tie.Need-loop-holds Inv-loop μ-loop
 loop-holds c = (search needs, sym (zero-add _))
 
-block-values-requires : tie.Need-block-values-requires Inv-loop μ-loop
-block-values-requires c κs = search needs
+shared-slice-copy-out-if2 : tie.Need-shared-slice-copy-out-if2 Inv-loop μ-loop
+shared-slice-copy-out-if2 c = search needs
 
-slice-aggregate-first-outside : tie.Need-slice-aggregate-first-outside Inv-loop μ-loop
-slice-aggregate-first-outside c = search needs
+returns-2 : tie.Need-returns-2 Inv-loop μ-loop
+returns-2 c =
+    let l = c .before .before .before .loop in
+    let ys = c .before .before .before .before .before .before .args .values .now in
+    found 127 ys (l .i) (omega (arith, c .before .before .loop-test .taken)) (l .inv .1) (says-outside (getD ys (l .i) (pos 0)) _ (search needs) (c .if2 .taken))
 
-first-outside-requires : tie.Need-first-outside-requires Inv-loop μ-loop
-first-outside-requires c κs = search needs
-
-mul-result : tie.Need-mul-result Inv-loop μ-loop
-mul-result c = search needs
-
-add-result : tie.Need-add-result Inv-loop μ-loop
-add-result c = search needs
-
-add-j : tie.Need-add-j Inv-loop μ-loop
-add-j c = search needs
+add-i : tie.Need-add-i Inv-loop μ-loop
+add-i c = search needs
 
 loop-less : tie.Need-loop-less Inv-loop μ-loop
 loop-less c = search needs
 
 loop-again : tie.Need-loop-again Inv-loop μ-loop
 loop-again c =
-    let b = c .before .before .before in
-    let l = b .before .before .loop in
-    let z = b .before .before .before .before .before in
-    let f = c .before .first-outside in
-    let long : length (b .block-values .result) ≡ 16 = search needs in
-    let i : 16 ≤ firstOutside 127 (b .block-values .result) = omega (arith, f .ensures, c .if2 .left) in
-    let e : 16 * (l .j + 1) ≡ 16 * l .j + 16 = omega arith in
-    (search needs, rw e (passed-block 127 (z .args .values .now) (16 * l .j) 16 (omega (arith, z .pre)) (l .inv .1) (b .block-values .result) long (b .block-values .ensures) i))
-
-returns-2 : tie.Need-returns-2 Inv-loop μ-loop
-returns-2 c =
-    let b = c .before .before .before in
-    let l = b .before .before .loop in
-    let z = b .before .before .before .before .before in
-    let f = c .before .first-outside in
-    let long : length (b .block-values .result) ≡ 16 = search needs in
-    let i : firstOutside 127 (b .block-values .result) < 16 = omega (arith, f .ensures, c .if2 .taken) in
-    ap (λ n. 16 * l .j + n) (f .ensures)
-    ∙ found-in 127 (z .args .values .now) (16 * l .j) 16 (omega (arith, z .pre)) (l .inv .1) (b .block-values .result) long (b .block-values .ensures) i
+    let l = c .before .before .before .loop in
+    let ys = c .before .before .before .before .before .before .args .values .now in
+    (search needs, passed 127 ys (l .i) (omega (arith, c .before .before .loop-test .taken)) (l .inv .1) (says-inside (getD ys (l .i) (pos 0)) _ (search needs) (sfits-of (c .before .if22 .given)) (c .if2 .left)))
 
 returns-3 : tie.Need-returns-3 Inv-loop μ-loop
 returns-3 c =
     let l = c .before .loop in
-    let z = c .before .before .before .before in
-    let e : l .j ≡ 16 = search needs in
-    passed-all 127 (z .args .values .now) 256 (omega (arith, z .pre)) (omega (arith, z .pre)) (rw e at (l .inv .1))
+    passed-all 127 (c .before .before .before .before .args .values .now) (l .i) (l .inv .0) (omega (arith, c .loop-test .left)) (l .inv .1)
 
 pub frame-outside-spec : {M : Type 1} → statement M
 frame-outside-spec =
@@ -88,13 +66,9 @@ frame-outside-spec =
     some-outside-requires
     returns
     loop-holds
-    block-values-requires
-    slice-aggregate-first-outside
-    first-outside-requires
-    mul-result
-    add-result
+    shared-slice-copy-out-if2
     returns-2
-    add-j
+    add-i
     loop-less
     loop-again
     returns-3)

@@ -1,19 +1,18 @@
--- `frame::frame_undo` meets its contract: refused it leaves the buffer, accepted it writes the payload. Assumes nothing.
+-- `frame::frame_undo` meets its contract: refused it leaves the buffer, accepted it does what `undo_word` does. Assumes nothing.
 use mathlib.Core.Path.{_≡_, ap, sym, _∙_}
 use mathlib.Core.Bool.{true}
+use Prim.Native.Nat.{_/_}
 use native.Mathlib.Omega.{arith}
-use lib.ListN.{length}
+use lib.ListN.{length, replicate}
+use lib.Seq.{length-take-le}
 use borrow.Author.Tests.{not-true, not-false}
 use Rattle.answer.specs.Verdict.{done, isAccepted, settle}
-use Rattle.mask.proofs.Mask.{bytes-marked}
 use Rattle.frame.specs.Jobs.{requestChecks}
-use Rattle.frame.proofs.Accepted.{RequestAccepted, request-accepted, undo-refused, undo-frozen, undo-done}
+use Rattle.plan.proofs.Layered.{bytes-rows}
+use Rattle.frame.proofs.Accepted.{RequestAccepted, request-accepted, undo-refused}
 use borrow.Author.Needs.{needs}
 use Rattle.frame.proofs.frame_undo.Statement.{statement}
 use Rattle.frame.proofs.frame_undo.Tie as tie
-
-payload-bytes-requires : tie.Need-payload-bytes-requires
-payload-bytes-requires c κs = search needs
 
 request-check-requires : tie.Need-request-check-requires
 request-check-requires c κs = search needs
@@ -24,69 +23,66 @@ accepted-requires c κs = search needs
 returns : tie.Need-returns
 returns c =
     let d = c .before .before in
-    let a = d .before .before .before .before .before .args in
-    undo-refused (a .inner) (a .outer) (a .mask .now) (a .word .now) (a .payload .now) _ (d .request-check .ensures)
-    (sym (c .before .accepted .ensures) ∙ not-true _ (c .if1 .taken))
+    let a = c .before .before .before .before .before .before .args in
+    undo-refused (a .plan) (a .mask .now) (a .word .now) (a .payload .now) _ (d .request-check .ensures) (sym (c .before .accepted .ensures) ∙ not-true _ (c .if1 .taken))
 
 -- The checks before the symbols accepted,
-accepts : (c : tie.Else1) → (let a = c .before .before .before .before .before .before .before .args in
-    isAccepted (settle (requestChecks (a .inner) (a .outer) (a .mask .now) (length (a .word .now)) (length (a .payload .now))) done) ≡ true)
+accepts : (c : tie.Else1) → (let a = c .before .before .before .before .before .before .args in
+    isAccepted (settle (requestChecks (a .plan) (a .mask .now) (length (a .word .now)) (length (a .payload .now))) done) ≡ true)
 accepts c = ap isAccepted (sym (c .before .before .request-check .ensures)) ∙ sym (c .before .accepted .ensures) ∙ not-false _ (c .if1 .left)
 
 -- so the inputs pass them.
-passed : (c : tie.Else1) → (let a = c .before .before .before .before .before .before .before .args in
-    RequestAccepted (a .inner) (a .outer) (a .mask .now) (length (a .word .now)) (length (a .payload .now)))
-passed c = request-accepted _ _ _ _ _ (accepts c)
+passed : (c : tie.Else1) → (let a = c .before .before .before .before .before .before .args in
+    RequestAccepted (a .plan) (a .mask .now) (length (a .word .now)) (length (a .payload .now)))
+passed c = request-accepted _ _ _ _ (accepts c)
 
-word-symbols-requires : tie.Need-word-symbols-requires
-word-symbols-requires c κs = let p = passed c in (p .inner, p .outer, p .long)
+bytes-requires : tie.Need-bytes-requires
+bytes-requires c κs = search needs
 
-slice-aggregate-frozen-one : tie.Need-slice-aggregate-frozen-one
-slice-aggregate-frozen-one c = search needs
+array-borrow-prefix-rows : tie.Need-array-borrow-prefix-rows
+array-borrow-prefix-rows c = search needs
 
-frozen-one-requires : tie.Need-frozen-one-requires
-frozen-one-requires c κs =
-    let p = passed (c .before .before) in
-    let n : length (c .before .word-symbols .result) ≡ 32 = search needs in
-    (omega (arith, p .count), n ∙ sym (p .count))
+slice-aggregate-undo-word : tie.Need-slice-aggregate-undo-word
+slice-aggregate-undo-word c = sym (length-take-le (c .before .bytes .result / 2) (replicate 256 0) (omega (arith, c .before .bytes .ensures .1)))
 
-returns-2 : tie.Need-returns-2
-returns-2 c =
-    let a = c .before .before .before .before .before .before .before .before .before .before .before .args in
-    undo-frozen (a .inner) (a .outer) (a .mask .now) (a .word .now) (a .payload .now) (accepts (c .before .before .before .before))
-    _ (c .before .before .before .word-symbols .ensures) _ (c .before .frozen-one .ensures) (c .if2 .taken)
+array-borrow-prefix-symbols : tie.Need-array-borrow-prefix-symbols
+array-borrow-prefix-symbols c = search needs
 
-slice-aggregate-gather : tie.Need-slice-aggregate-gather
-slice-aggregate-gather c = search needs
+slice-aggregate-undo-word-2 : tie.Need-slice-aggregate-undo-word-2
+slice-aggregate-undo-word-2 c =
+    let n = c .before .before .bytes in
+    sym (length-take-le (n .result) (replicate 512 0) (n .ensures .1))
 
-gather-requires : tie.Need-gather-requires
-gather-requires c κs =
-    let p = passed (c .before .before .before .before .before .before) in
-    let n : length (c .before .before .before .before .before .word-symbols .result) ≡ 32 = search needs in
-    ((omega (arith, p .count), n ∙ sym (p .count)), omega (arith, p .room-enough, bytes-marked _ (p .count) (p .good)))
+undo-word-requires : tie.Need-undo-word-requires
+undo-word-requires c κs =
+    let n = c .before .before .before .bytes in
+    let q = passed (c .before .before .before .before) in
+    let e = n .ensures .0 (q .layered) in (
+      accepts (c .before .before .before .before),
+      (
+        length-take-le (n .result / 2) (replicate 256 0) (omega (arith, n .ensures .1)) ∙ omega (arith, e, bytes-rows _ (q .layered)),
+        length-take-le (n .result) (replicate 512 0) (n .ensures .1) ∙ e,
+      ),
+    )
 
 same-length : tie.Need-same-length
 same-length c = search needs
 
-returns-3 : tie.Need-returns-3
-returns-3 c =
-    let a = c .before .before .before .before .before .before .before .before .before .before .before .before .before .before .before .before .args in
-    undo-done (a .inner) (a .outer) (a .mask .now) (a .word .now) (a .payload .now) (accepts (c .before .before .before .before .before .before .before .before .before))
-    _ (c .before .before .before .before .before .before .before .before .word-symbols .ensures) _ (c .before .before .before .before .before .before .frozen-one .ensures) (c .before .before .before .before .before .if2 .left) _ (c .before .before .gather .ensures)
+returns-2 : tie.Need-returns-2
+returns-2 c = c .before .before .before .before .undo-word .ensures
 
 pub frame-undo-spec : {M : Type 1} → statement M
 frame-undo-spec =
     tie.close
     (tie.spec
-    payload-bytes-requires
     request-check-requires
     accepted-requires
     returns
-    word-symbols-requires
-    slice-aggregate-frozen-one
-    frozen-one-requires
-    returns-2
-    slice-aggregate-gather
-    gather-requires
+    bytes-requires
+    array-borrow-prefix-rows
+    slice-aggregate-undo-word
+    array-borrow-prefix-symbols
+    slice-aggregate-undo-word-2
+    undo-word-requires
     same-length
-    returns-3)
+    returns-2)

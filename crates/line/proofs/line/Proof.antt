@@ -2,7 +2,7 @@
 use native.Mathlib.Omega.{arith}
 use borrow.Author.Needs.{needs}
 use Rattle.text.proofs.Stored.{put-first}
-use Rattle.line.specs.Line.{refusedLine, lineOf, maskOf, decodeOf, line}
+use Rattle.line.specs.Line.{refusedLine, lineOf, planOf, maskOf, decodeOf, line}
 use Rattle.line.proofs.Printed.{line-other, line-whole}
 use Rattle.line.proofs.line.Statement.{statement}
 use Rattle.line.proofs.line.Tie as tie
@@ -24,7 +24,7 @@ returns-2 c =
     let a = c .before .before .before .before .args in
     let r = c .put-decoded in
     let input = a .input .now in
-    put-first (lineOf (maskOf input) (decodeOf input)) (line input) (r .result) (a .out .now) (r .last .1 .0) (line-whole input (omega arith)) (r .ensures)
+    put-first (lineOf (planOf input) (maskOf input) (decodeOf input)) (line input) (r .result) (a .out .now) (r .last .1 .0) (line-whole input (omega arith)) (r .ensures)
 
 pub line-spec : {M : Type 1} → statement M
 line-spec = tie.close (tie.spec put-refused-requires returns put-decoded-requires returns-2)

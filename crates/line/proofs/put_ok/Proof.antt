@@ -16,7 +16,7 @@ use Rattle.text.proofs.put_hexadecimal.Reads as put-hexadecimal-reads
 
 -- A penalty has at most five digits,
 digits : (s : tie.Start) → length (decimal (s .args .penalty)) ≤ 5
-digits s = decimal-short 4 (s .args .penalty) (omega (arith, s .fits .penalty .fits))
+digits s = decimal-short 4 (s .args .penalty) (omega (arith, s .pre .2))
 
 -- and a payload 64.
 pairs : (s : tie.Start) → length (hexadecimal (s .args .payload .now)) ≤ 64

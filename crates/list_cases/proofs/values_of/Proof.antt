@@ -7,10 +7,10 @@ use Rattle.list_cases.proofs.values_of.Statement.{statement}
 use Rattle.list_cases.proofs.values_of.Tie as tie
 
 abbrev Inv-loop : tie.InvT-loop
-Inv-loop h b values₀ i₀ values i = length values ≡ 256
+Inv-loop outside h b values₀ i₀ values i = length values ≡ 256
 
 abbrev μ-loop : tie.MeasureT-loop
-μ-loop h b values₀ i₀ values i = 256 - i
+μ-loop outside h b values₀ i₀ values i = 256 - i
 
 bytes-of-requires : tie.Need-bytes-of-requires Inv-loop μ-loop
 bytes-of-requires c κs = search needs
@@ -42,8 +42,17 @@ loop-less c = search needs
 loop-again : tie.Need-loop-again Inv-loop μ-loop
 loop-again c = search needs
 
+array-set-of-values : tie.Need-array-set-of-values Inv-loop μ-loop
+array-set-of-values c = search needs
+
+array-set-of-values-2 : tie.Need-array-set-of-values-2 Inv-loop μ-loop
+array-set-of-values-2 c = search needs
+
 returns : tie.Need-returns Inv-loop μ-loop
 returns c = search needs
+
+returns-2 : tie.Need-returns-2 Inv-loop μ-loop
+returns-2 c = search needs
 
 pub values-of-spec : {M : Type 1} → statement M
 values-of-spec =
@@ -61,4 +70,7 @@ values-of-spec =
     add-i
     loop-less
     loop-again
-    returns)
+    array-set-of-values
+    array-set-of-values-2
+    returns
+    returns-2)

@@ -1,11 +1,14 @@
 -- `list_run::list_run` meets its contract: row after row. Assumes nothing.
-use mathlib.Core.Path.{_≡_, refl, _∙_, subst}
+use mathlib.Core.Path.{_≡_, refl, ap, _∙_, subst}
+use mathlib.Core.Bool.{Bool}
 use mathlib.Core.List.{List, [], _∷_}
-use Prim.Native.Nat.{ℕ, zero, suc, _+_, _-_, _≤_, _<_}
+use Prim.Native.Nat.{ℕ, zero, suc, _+_, _-_, _*_, _≤_, _<_}
 use native.Mathlib.Omega.{arith}
+use lib.IntN.{ℤ}
 use lib.ListN.{getD, replicate}
+use Rattle.polar.specs.Code.{channel}
 use Rattle.lane_totals.specs.Totals.{Again}
-use Rattle.frame_run.proofs.Premises.{lanes-wider}
+use Rattle.pair_run.proofs.Premises.{lanes-wider}
 use Rattle.list_run.specs.Run.{AfterRows, NextPlanes, FrameTables}
 use Rattle.list_run.proofs.Outer.{rooms}
 use Rattle.list_run.proofs.Rows.{no-row, row-next, run-done, no-more, rows-clean}
@@ -31,6 +34,10 @@ own i l = go (8 - suc i) i (omega arith)
 lt-le : {a b n : ℕ} → a < b → b ≤ n → a < n
 lt-le l m = omega arith
 
+-- The values that a run reads are the first 256.
+first-values : (ys : List ℤ) (j t : ℕ) (d : Bool) → channel ys (256 * 0 + (16 * j + t)) d ≡ channel ys (16 * j + t) d
+first-values ys j t d = let e : 256 * 0 + (16 * j + t) ≡ 16 * j + t = omega arith in ap (λ i. channel ys i d) e
+
 abbrev Inv-loop : tie.InvT-loop
 Inv-loop inner outer list values scratch₀ marks outer-shapes outer-tables matrix costs halves planes₀ held₀ n₀ r₀ scratch planes held n r =
     FrameTables inner outer values outer-shapes outer-tables matrix costs halves
@@ -52,7 +59,8 @@ kernel-rows-requires : tie.Need-kernel-rows-requires Inv-loop μ-loop
 kernel-rows-requires c κs = search needs
 
 outer-costs-requires : tie.Need-outer-costs-requires Inv-loop μ-loop
-outer-costs-requires c κs = search needs
+outer-costs-requires c κs =
+    search needs
 
 free-eight-requires : tie.Need-free-eight-requires Inv-loop μ-loop
 free-eight-requires c κs = lanes-wider 127 16383 (c .before .outer-costs .result) (omega arith) (c .before .outer-costs .ensures .1)
@@ -72,7 +80,7 @@ loop-holds c =
         costs-within = o .ensures .1;
         halves-within = lanes-wider 254 4095 (h .result) (omega arith) (h .ensures .1 127 (o .ensures .1));
         halves-are = h .ensures .0;
-        agree = o .ensures .0;
+        agree = λ j t d lj lt. o .ensures .0 j t d lj lt ∙ first-values (c .before .before .before .before .before .before .before .before .before .before .before .args .values .now) j t d;
       },
       no-row _ _ _ _ _ _ _ _ _ _ refl refl (rooms (replicate 16 0) refl 8) refl (rooms (replicate 16 (replicate 2 (replicate 16 0))) refl 8) (f .0),
     )

@@ -5,7 +5,7 @@ use Prim.Native.Nat.{ℕ, _-_, _≤_, _<_}
 use native.Mathlib.Omega.{arith}
 use lib.ListN.{getD}
 use Rattle.lane_phases.specs.Rows.{KeptLane}
-use Rattle.frame_run.proofs.Premises.{lanes-wider}
+use Rattle.pair_run.proofs.Premises.{lanes-wider}
 use Rattle.list_run.proofs.Outer.{PairsSo, none-yet, pairs-next, pairs-done}
 use borrow.Author.Needs.{needs}
 use Rattle.list_run.proofs.row_costs.Statement.{statement}

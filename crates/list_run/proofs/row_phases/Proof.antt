@@ -3,7 +3,7 @@ use Prim.Native.Nat.{_-_}
 use native.Mathlib.Omega.{arith}
 use Rattle.base.specs.Bit.{bit}
 use Rattle.bits.specs.Packed.{bits}
-use Rattle.frame_run.proofs.Premises.{lanes-wider}
+use Rattle.pair_run.proofs.Premises.{lanes-wider}
 use Rattle.lane_totals.specs.Totals.{TablesOf}
 use Rattle.list_run.specs.Run.{InRow}
 use Rattle.list_run.proofs.Phases.{row-begins, turn-any, row-done}

@@ -3,7 +3,7 @@ use mathlib.Core.Bool.{or-true}
 use Prim.Native.Nat.{_%_}
 use native.Mathlib.Omega.{arith}
 use borrow.Author.Needs.{needs}
-use borrow.Author.Tests.{ne-eqb}
+use borrow.Author.Tests.{eq-eqb, ne-eqb}
 use Rattle.mask.specs.Mask.{marked, badMask, payloadBytes}
 use Rattle.mask.proofs.Mask.{whole-bytes}
 use Rattle.mask.proofs.payload_bytes.Statement.{statement}
@@ -20,14 +20,14 @@ returns-2 : tie.Need-returns-2
 unfolding payloadBytes badMask marked
 returns-2 c =
     let k = c .before .count in
-    simp (c .before .before .if1 .left, ← k .ensures, ne-eqb (k .result % 8) 0 (λ e. omega (arith, c .if2 .taken)), or-true, payloadBytes, badMask)
+    simp (eq-eqb _ _ (c .before .before .if1 .left), ← k .ensures, ne-eqb (k .result % 8) 0 (λ e. omega (arith, c .if2 .taken)), or-true, payloadBytes, badMask)
 
 returns-3 : tie.Need-returns-3
 unfolding marked
 returns-3 c =
     let k = c .before .count in
-    let mask = c .before .before .before .before .args .mask .now in
-    omega (arith, whole-bytes mask (c .before .before .if1 .left) (omega (arith, k .ensures)), k .ensures)
+    let a = c .before .before .before .before .args in
+    omega (arith, whole-bytes (a .n) (a .mask .now) (c .before .before .if1 .left) (omega (arith, k .ensures)), k .ensures)
 
 pub payload-bytes-spec : {M : Type 1} → statement M
 payload-bytes-spec = tie.close (tie.spec returns count-requires returns-2 returns-3)

@@ -1,0 +1,4 @@
+pub mod Prefixes
+pub mod Layered
+pub mod Premises
+pub mod Rows

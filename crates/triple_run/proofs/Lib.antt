@@ -1,0 +1,4 @@
+pub mod Loading
+pub mod Stepping
+pub mod Fronts
+pub mod Rows
