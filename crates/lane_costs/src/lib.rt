@@ -1,10 +1,10 @@
 // What the values of sixteen kernels side by side pay, a lane for each kernel.
 ghost use mathlib.Core.Path.{_≡_};
-ghost use mathlib.Core.Bool.{Bool};
+ghost use mathlib.Core.Bool.{Bool, true, false};
 ghost use Prim.Native.Nat.{ℕ, _+_, _*_, _≤_, _<_};
 ghost use lib.IntN.{pos, natAbs};
 ghost use lib.ListN.{length, getD};
-ghost use Rattle.polar.specs.Code.{channel};
+ghost use Rattle.polar.specs.Code.{pay, channel};
 ghost use Rattle.folds.specs.Range.{firstOutside};
 ghost use Rattle.folds.specs.Rows.{cell};
 ghost use Rattle.lane.specs.Lanes.{laneCosts, LanesWithin};
@@ -23,17 +23,48 @@ fn wide_values(values: &[i8], g: usize) -> [i32; 256]
     out
 }
 
+// What a value pays for bit 1,
+fn above(y: i16) -> u16
+    requires { ⌜ natAbs y ≤ 2047 ⌝ }
+    ensures { λ r. ⌜ r ≡ pay y true ⌝ }
+{
+    if y < 0 { 0 } else { y as u16 }
+}
+
+// and for bit 0: as the negative pays for bit 1, so that both are vector maxima.
+fn below(y: i16) -> u16
+    requires { ⌜ natAbs y ≤ 2047 ⌝ }
+    ensures { λ r. ⌜ r ≡ pay y false ⌝ }
+{
+    above(0 - y)
+}
+
+// The values at place t of the kernels, in sixteen bits, for which the processor has a vector maximum.
+fn lane_values(values: &[i32; 256], t: usize) -> [i16; 16]
+    requires { ⌜ ((i : ℕ) → i < 256 → natAbs (getD (now values) i (pos 0)) ≤ 2047) × (t < 16) ⌝ }
+    ensures { λ r. ⌜ ((j : ℕ) → j < 16 → getD r j (pos 0) ≡ getD (now (values .entry)) (16 * j + t) (pos 0)) ⌝ }
+{
+    let mut out = [0i16; 16];
+    let mut j: usize = 0;
+    while j < 16 {
+        out[j] = values[16 * j + t] as i16;
+        j += 1;
+    }
+    out
+}
+
 // What the values at place t of the kernels pay for bit 0 and for bit 1.
 fn place_costs(values: &[i32; 256], t: usize) -> [[u16; 16]; 2]
     requires { ⌜ ((i : ℕ) → i < 256 → natAbs (getD (now values) i (pos 0)) ≤ 2047) × (t < 16) ⌝ }
     ensures { λ r. ⌜ ((j : ℕ) (b : Bool) → j < 16 → cell 0 r j b ≡ channel (now (values .entry)) (16 * j + t) b) ⌝ }
 {
+    let ys = lane_values(values, t);
     let mut out = [[0u16; 16]; 2];
     let mut j: usize = 0;
     while j < 16 {
-        let y = values[16 * j + t];
-        out[0][j] = run::paid(y, false) as u16;
-        out[1][j] = run::paid(y, true) as u16;
+        let y = ys[j];
+        out[0][j] = below(y);
+        out[1][j] = above(y);
         j += 1;
     }
     out
