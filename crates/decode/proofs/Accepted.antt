@@ -30,7 +30,8 @@ use Rattle.grid.proofs.Grid.{length-rows-bits, rows-bit-at, rows-bits-cong}
 use Rattle.run.specs.Run.{symbolBy, SymbolsBy}
 use Rattle.run.proofs.Symbols.{given-only}
 use Rattle.frame_run.specs.Run.{rowCount, Ready, FrameRun}
-use Rattle.decode.specs.Jobs.{valueCheck, frameFollowChecks, frameFollow, frameDecodeChecks, decided, frameDecode}
+use Rattle.decode_checks.specs.Checks.{valueCheck, frameFollowChecks, frameDecodeChecks}
+use Rattle.decode.specs.Jobs.{frameFollow, decided, frameDecode}
 
 -- Values that pass: none is outside.
 inside-all : (n : ℕ) (values : List ℤ) → length values ≡ n → (valueCheck values) .holds ≡ false → firstOutside 127 values ≡ n
@@ -89,8 +90,8 @@ follow-passes : (p : Plan) (values : List ℤ) (symbolBytes scoreRoom penaltyRoo
     → FollowAccepted p values symbolBytes scoreRoom penaltyRoom
 unfolding frameFollowChecks
 follow-passes p values symbolBytes scoreRoom penaltyRoom n =
-    let layered : badLayers p ≡ false = search (n .0, n .1 .0) in
-    let known : badKernels p ≡ false = search (n .0, n .1 .0) in
+    let layered : badLayers p ≡ false = n .0 in
+    let known : badKernels p ≡ false = n .1 .0 in
     let h = or-eq-false _ _ (n .1 .1 .0) in
     let e = eqb-true (length values) (symbolCount p) (not-false _ (h .0)) in
     let r = or-eq-false _ _ (n .1 .1 .1 .0) in
@@ -155,8 +156,8 @@ decode-passes : (p : Plan) (values : List ℤ) (mask : List ℕ) (scoreRoom pena
     → DecodeAccepted p values mask scoreRoom penaltyRoom payloadRoom
 unfolding frameDecodeChecks
 decode-passes p values mask scoreRoom penaltyRoom payloadRoom n =
-    let layered : badLayers p ≡ false = search (n .0, n .1 .0) in
-    let known : badKernels p ≡ false = search (n .0, n .1 .0) in
+    let layered : badLayers p ≡ false = n .0 in
+    let known : badKernels p ≡ false = n .1 .0 in
     let h = or-eq-false _ _ (n .1 .1 .0) in
     let e = eqb-true (length values) (symbolCount p) (not-false _ (h .0)) in
     let l = eqb-true (length mask) (byteCount p) (not-false _ (h .1)) in

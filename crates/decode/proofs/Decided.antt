@@ -20,7 +20,8 @@ use Rattle.polar.proofs.Follow.{length-decode}
 use Rattle.plan.specs.declared.Plan.{Plan}
 use Rattle.plan.specs.Plan.{badLayers, planCode, symbolCount, byteCount}
 use Rattle.plan.proofs.Layered.{plan-size, bytes-bits}
-use Rattle.decode.specs.Jobs.{frameFollowChecks, frameFollow, frameDecodeChecks, decided, frameDecode}
+use Rattle.decode_checks.specs.Checks.{frameFollowChecks, frameDecodeChecks}
+use Rattle.decode.specs.Jobs.{frameFollow, decided, frameDecode}
 
 both : (m w : Bool) → m ≡ false → w ≡ false → (m || w) ≡ false
 both m w em ew = rw (em, ew) refl

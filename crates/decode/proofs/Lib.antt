@@ -1,4 +1,3 @@
-pub mod Outside
 pub mod Accepted
 pub mod Decided
 pub mod Exact

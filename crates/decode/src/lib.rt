@@ -1,83 +1,18 @@
-// Frame follow and frame decode: the checks, and the run of a frame with its symbols given or decided.
+// Frame follow and frame decode: the run of a frame with its symbols given or decided.
 ghost use mathlib.Core.Path.{_≡_};
 ghost use mathlib.Core.Bool.{false};
 ghost use mathlib.Core.List.{_++_};
 ghost use Prim.Native.Nat.{_*_, _/_, _≤_};
-ghost use lib.Dec.{ltb};
 ghost use lib.ListN.{length, drop};
 ghost use Rattle.bits.specs.Packed.{unpack, pack};
 ghost use Rattle.payload.specs.Payload;
-ghost use Rattle.folds.specs.Range.{firstOutside};
-ghost use Rattle.answer.specs.Verdict.{verdict, done, settle};
+ghost use Rattle.answer.specs.Verdict.{verdict};
 ghost use Rattle.plan.specs.Plan.{badLayers, byteCount};
 ghost use Rattle.grid.specs.Grid.{rowsBits};
 ghost use Rattle.frame_run.specs.Run.{rowCount};
-ghost use Rattle.decode.specs.Jobs.{frameFollowChecks, frameFollow, frameDecodeChecks, frameDecode};
+ghost use Rattle.decode.specs.Jobs.{frameFollow, frameDecode};
 use answer::Answer;
 use plan::Plan;
-
-// Whether some value lies outside -127 to 127, that is, is -128.
-fn some_outside(values: &[i8]) -> bool
-    requires { ⌜ length (now values) ≤ 4096 ⌝ }
-    ensures { λ r. ⌜ r ≡ ltb (firstOutside 127 (now (values .entry))) (length (now (values .entry))) ⌝ }
-{
-    let mut found = false;
-    let mut i: usize = 0;
-    while i < values.len() {
-        found = found | (values[i] == -128);
-        i += 1;
-    }
-    found
-}
-
-// The lowest index whose value lies outside -127 to 127, or the number of values. Only where there is such a value, which is
-// seldom, are they searched one by one; the last line is then not reached.
-pub fn frame_outside(values: &[i8]) -> usize
-    requires { ⌜ length (now values) ≤ 4096 ⌝ }
-    ensures { λ r. ⌜ r ≡ firstOutside 127 (now (values .entry)) ⌝ }
-{
-    if !some_outside(values) {
-        return values.len();
-    }
-    let mut i: usize = 0;
-    while i < values.len() {
-        if values[i] == -128 {
-            return i;
-        }
-        i += 1;
-    }
-    i
-}
-
-// The checks of frame follow, in checking order.
-fn follow_check(
-    plan: Plan,
-    values: &[i8],
-    symbol_bytes: usize,
-    score_room: usize,
-    penalty_room: usize,
-) -> Answer
-    ensures { λ r. ⌜ verdict r ≡ settle (frameFollowChecks plan (now (values .entry)) «symbol_bytes» «score_room» «penalty_room») done ⌝ }
-{
-    if !plan::has_layers(plan) {
-        return Answer::BadLayers;
-    }
-    if !plan::has_kernels(plan) {
-        return Answer::NoKernel;
-    }
-    let n = plan::symbols(plan);
-    if (values.len() != n) | (symbol_bytes != plan::bytes(plan)) {
-        return Answer::WrongLength;
-    }
-    if (score_room < n) | (penalty_room < n) {
-        return Answer::ShortOutput;
-    }
-    let place = frame_outside(values);
-    if place < n {
-        return Answer::ValueOutOfRange(place);
-    }
-    Answer::Done
-}
 
 // Frame follow: the scores and penalties of the symbols of a frame over its channel values.
 pub fn frame_follow(
@@ -89,7 +24,13 @@ pub fn frame_follow(
 ) -> Answer
     ensures { λ r. ⌜ frameFollow plan (now (values .entry)) (now (symbols .entry)) (now (scores .entry)) (now (penalties .entry)) ≡ (verdict r, now (scores .exit), now (penalties .exit)) ⌝ }
 {
-    let answer = follow_check(plan, values, symbols.len(), scores.len(), penalties.len());
+    let answer = decode_checks::follow_check(
+        plan,
+        values,
+        symbols.len(),
+        scores.len(),
+        penalties.len(),
+    );
     if !answer::accepted(answer) {
         return answer;
     }
@@ -98,42 +39,6 @@ pub fn frame_follow(
     let mut given = [0u16; 256];
     grid::rows_of(symbols, &mut given[..n]);
     frame_run::frame_run(plan, values, &free, &given, scores, penalties);
-    Answer::Done
-}
-
-// The checks of frame decode, in checking order. A mask that is refused takes no byte.
-fn decode_check(
-    plan: Plan,
-    values: &[i8],
-    mask: &[u8],
-    score_room: usize,
-    penalty_room: usize,
-    payload_room: usize,
-) -> Answer
-    ensures { λ r. ⌜ verdict r ≡ settle (frameDecodeChecks plan (now (values .entry)) (now (mask .entry)) «score_room» «penalty_room» «payload_room») done ⌝ }
-{
-    if !plan::has_layers(plan) {
-        return Answer::BadLayers;
-    }
-    if !plan::has_kernels(plan) {
-        return Answer::NoKernel;
-    }
-    let n = plan::symbols(plan);
-    let mask_bytes = plan::bytes(plan);
-    if (values.len() != n) | (mask.len() != mask_bytes) {
-        return Answer::WrongLength;
-    }
-    let bytes = mask::payload_bytes(mask_bytes, mask);
-    if bytes == 0 {
-        return Answer::BadMask;
-    }
-    if (score_room < n) | (penalty_room < n) | (payload_room < bytes) {
-        return Answer::ShortOutput;
-    }
-    let place = frame_outside(values);
-    if place < n {
-        return Answer::ValueOutOfRange(place);
-    }
     Answer::Done
 }
 
@@ -159,7 +64,7 @@ pub fn frame_decode(
 ) -> Answer
     ensures { λ r. ⌜ frameDecode plan (now (values .entry)) (now (mask .entry)) (now (scores .entry)) (now (penalties .entry)) (now (payload .entry)) ≡ (verdict r, now (scores .exit), now (penalties .exit), now (payload .exit)) ⌝ }
 {
-    let answer = decode_check(
+    let answer = decode_checks::decode_check(
         plan,
         values,
         mask,

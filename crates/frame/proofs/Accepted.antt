@@ -17,7 +17,8 @@ use Rattle.mask.specs.Mask.{marked, badMask, payloadBytes}
 use Rattle.mask.proofs.Mask.{bytes-marked, bytes-eighth}
 use Rattle.plan.specs.declared.Plan.{Plan}
 use Rattle.plan.specs.Plan.{badLayers, badKernels, symbolCount, byteCount}
-use Rattle.frame.specs.Jobs.{encodeChecks, encodedFrame, frameEncode, requestChecks, frameSymbols, frozenOf, undoChecks, undonePayload, frameUndo}
+use Rattle.frame_checks.specs.Checks.{encodeChecks, requestChecks}
+use Rattle.frame.specs.Jobs.{encodedFrame, frameEncode, frameSymbols, frozenOf, undoChecks, undonePayload, frameUndo}
 
 -- ---- frame encode
 
@@ -33,8 +34,8 @@ pub record EncodeAccepted (p : Plan) (mask : List ℕ) (payloadLength room : ℕ
 encode-passes : (p : Plan) (mask : List ℕ) (payloadLength room : ℕ) → None (encodeChecks p mask payloadLength room) → EncodeAccepted p mask payloadLength room
 unfolding encodeChecks
 encode-passes p mask payloadLength room n =
-    let layered : badLayers p ≡ false = search (n .0, n .1 .0) in
-    let known : badKernels p ≡ false = search (n .0, n .1 .0) in
+    let layered : badLayers p ≡ false = n .0 in
+    let known : badKernels p ≡ false = n .1 .0 in
     let e = eqb-true (length mask) (byteCount p) (not-false _ (n .1 .1 .0)) in
     let g = n .1 .1 .1 .0 in
     let s = eqb-true payloadLength (marked mask / 8) (not-false _ (n .1 .1 .1 .1 .0)) in

@@ -24,7 +24,8 @@ use Rattle.polar.proofs.Undo.{length-symbols-in, symbols-of-word, word-of-symbo
 use Rattle.plan.specs.declared.Plan.{Plan}
 use Rattle.plan.specs.Plan.{badLayers, badKernels, planCode, symbolCount, byteCount}
 use Rattle.plan.proofs.Layered.{plan-size, bytes-bits}
-use Rattle.frame.specs.Jobs.{encodeChecks, encodedFrame, frameEncode, frameSymbols, frozenOf, requestChecks, undoChecks, undonePayload, frameUndo}
+use Rattle.frame_checks.specs.Checks.{encodeChecks, requestChecks}
+use Rattle.frame.specs.Jobs.{encodedFrame, frameEncode, frameSymbols, frozenOf, undoChecks, undonePayload, frameUndo}
 use Rattle.frame.proofs.Words.{unframe, undoes, redoes}
 
 -- Numbers that are bytes.
@@ -131,8 +132,8 @@ module _ (p : Plan) (mask : List ℕ) where
   unfolding frameEncode encodeChecks requestChecks undoChecks
   undo-encode payload out out′ h ok room =
       let n = none-of (encodeChecks p mask (length payload) (length out)) done ok in
-      let layered : badLayers p ≡ false = search (n .0, n .1 .0) in
-      let known : badKernels p ≡ false = search (n .0, n .1 .0) in
+      let layered : badLayers p ≡ false = n .0 in
+      let known : badKernels p ≡ false = n .1 .0 in
       let e = eqb-true (length mask) (byteCount p) (not-false _ (n .1 .1 .0)) in
       let g = n .1 .1 .1 .0 in
       let s = eqb-true (length payload) (marked mask / 8) (not-false _ (n .1 .1 .1 .1 .0)) in
@@ -174,7 +175,7 @@ module _ (p : Plan) (mask : List ℕ) where
       let known : badKernels p ≡ false = n .1 .0 in
       ap (λ (r : Verdict × List ℕ). frameEncode p mask (take (marked mask / 8) (r .1)) out′) (undo-leaves p mask word out n)
       ∙ ap (λ x. frameEncode p mask x out′) (take-at x (drop (marked mask / 8) out) (marked mask / 8) lx)
-      ∙ encode-leaves p mask x out′ (search (layered, known), (search (layered, known), (ap not (eq-eqb (length mask) (byteCount p) e), (g, (ap not (eq-eqb (length x) (marked mask / 8) lx), (le-ltb (length out′) (byteCount p) room, tt))))))
+      ∙ encode-leaves p mask x out′ (layered, (known, (ap not (eq-eqb (length mask) (byteCount p) e), (g, (ap not (eq-eqb (length x) (marked mask / 8) lx), (le-ltb (length out′) (byteCount p) room, tt))))))
       ∙ ap (λ w. (done, w ++ drop (byteCount p) out′)) (encoded-undone p layered mask e g word h l (frozen-none p layered mask e word (n .1 .1 .1 .1 .1 .0)))
 
   -- A word of no payload is refused by condition 9, where the request passes the other checks.

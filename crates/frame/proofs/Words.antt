@@ -27,7 +27,7 @@ use Rattle.plan.specs.Plan.{badLayers, badKernels, planKernel, planCode, symbol
 use Rattle.plan.proofs.Layered.{kernels-known, power-next, plan-size, bytes-bits, bytes-rows}
 use Rattle.grid.specs.Grid.{tableKernel, tablesCode, rowsBits}
 use Rattle.grid.proofs.Grid.{length-rows-bits}
-use Rattle.frame.specs.Tables.{layerTable, undoingTable, Tables}
+use Rattle.plan_tables.specs.Tables.{layerTable, undoingTable, Tables}
 use Rattle.frame.specs.Jobs.{encodedFrame, frameSymbols}
 
 -- ---- frames of like kernels have like words

@@ -1,29 +1,18 @@
 -- What frame encode and frame undo answer and write, from their inputs alone. Assumes nothing.
-use mathlib.Core.Bool.{Bool, not, _||_}
+use mathlib.Core.Bool.{Bool}
 use mathlib.Core.List.{List, [], _∷_, _++_}
 use Prim.Native.Nat.{ℕ, _/_}
-use lib.Dec.{eqb, ltb}
+use lib.Dec.{ltb}
 use lib.ListN.{length}
 use Rattle.base.specs.Bit.{tabulate}
 use Rattle.bits.specs.Packed.{unpack, pack}
 use Rattle.payload.specs.Payload.{spread, gather, frozenOne}
-use Rattle.answer.specs.Verdict.{Verdict, done, Check, condition, conditionAt, settle, after}
-use Rattle.mask.specs.Mask.{marked, badMask}
+use Rattle.answer.specs.Verdict.{Verdict, done, Check, conditionAt, settle, after}
+use Rattle.mask.specs.Mask.{marked}
 use Rattle.polar.specs.Code.{symbolsIn}
 use Rattle.plan.specs.declared.Plan.{Plan}
-use Rattle.plan.specs.Plan.{badLayers, badKernels, planCode, symbolCount, byteCount}
-
--- The checks of frame encode, in checking order: the plan's layers and kernels, the length of the mask, the mask, the length of
--- the payload, and the room for the word.
-unfoldable pub encodeChecks : Plan → List ℕ → ℕ → ℕ → List Check
-encodeChecks p mask payloadLength room =
-    condition 14 (badLayers p)
-    ∷ condition 1 (badKernels p)
-    ∷ condition 2 (not (eqb (length mask) (byteCount p)))
-    ∷ condition 3 (badMask mask)
-    ∷ condition 4 (not (eqb payloadLength (marked mask / 8)))
-    ∷ condition 5 (ltb room (byteCount p))
-    ∷ []
+use Rattle.plan.specs.Plan.{planCode, symbolCount, byteCount}
+use Rattle.frame_checks.specs.Checks.{encodeChecks, requestChecks}
 
 -- The bytes of the word of a payload: its bits fill the marked phases in rising order, all others are 0.
 unfoldable pub encodedFrame : Plan → List ℕ → List ℕ → List ℕ
@@ -43,18 +32,8 @@ frameSymbols p word = symbolsIn (planCode p) (unpack word)
 unfoldable pub frozenOf : Plan → List ℕ → List ℕ → ℕ
 frozenOf p mask word = frozenOne (unpack mask) (frameSymbols p word)
 
--- The checks of frame undo, in checking order: the plan's layers and kernels, the lengths of mask and word, the mask, the room for
--- the payload,
-unfoldable pub requestChecks : Plan → List ℕ → ℕ → ℕ → List Check
-requestChecks plan mask wordLength room =
-    condition 14 (badLayers plan)
-    ∷ condition 1 (badKernels plan)
-    ∷ condition 2 (not (eqb (length mask) (byteCount plan)) || not (eqb wordLength (byteCount plan)))
-    ∷ condition 3 (badMask mask)
-    ∷ condition 5 (ltb room (marked mask / 8))
-    ∷ []
-
--- and a symbol 1 at an unmarked phase, the lowest such phase being the place.
+-- The checks of frame undo, in checking order: those of the request, and a symbol 1 at an unmarked phase, the lowest such phase
+-- being the place.
 unfoldable pub undoChecks : Plan → List ℕ → List ℕ → ℕ → List Check
 undoChecks p mask word room =
     requestChecks p mask (length word) room

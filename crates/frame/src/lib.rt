@@ -8,69 +8,10 @@ ghost use Rattle.bits.specs.Packed.{unpack};
 ghost use Rattle.payload.specs.Payload;
 ghost use Rattle.answer.specs.Verdict.{verdict, done, isAccepted, settle};
 ghost use Rattle.plan.specs.Plan.{badLayers, badKernels, byteCount};
-ghost use Rattle.frame.specs.Tables.{layerTable, undoingTable, Tables};
-ghost use Rattle.frame.specs.Jobs.{encodeChecks, encodedFrame, frameEncode, frameSymbols, requestChecks, frameUndo};
+ghost use Rattle.frame_checks.specs.Checks.{requestChecks};
+ghost use Rattle.frame.specs.Jobs.{encodedFrame, frameEncode, frameSymbols, frameUndo};
 use answer::Answer;
 use plan::Plan;
-
-// The checks of frame encode, in checking order.
-fn encode_check(plan: Plan, mask: &[u8], payload_length: usize, room: usize) -> Answer
-    ensures { λ r. ⌜ verdict r ≡ settle (encodeChecks plan (now (mask .entry)) «payload_length» room) done ⌝ }
-{
-    if !plan::has_layers(plan) {
-        return Answer::BadLayers;
-    }
-    if !plan::has_kernels(plan) {
-        return Answer::NoKernel;
-    }
-    let n = plan::bytes(plan);
-    if mask.len() != n {
-        return Answer::WrongLength;
-    }
-    let bytes = mask::payload_bytes(n, mask);
-    if bytes == 0 {
-        return Answer::BadMask;
-    }
-    if payload_length != bytes {
-        return Answer::WrongPayload;
-    }
-    if room < n {
-        return Answer::ShortOutput;
-    }
-    Answer::Done
-}
-
-// The rows of the kernels of a plan's layers, innermost first.
-fn layer_tables(plan: Plan) -> [[u16; 16]; 3]
-    requires { ⌜ (badLayers plan ≡ false) × (badKernels plan ≡ false) ⌝ }
-    ensures { λ r. ⌜ Tables (plan .layers) (layerTable plan) r ⌝ }
-{
-    let m = plan.layers as usize;
-    let kernels = plan.kernels;
-    let mut tables = [[0u16; 16]; 3];
-    let mut i: usize = 0;
-    while i < m {
-        tables[i] = kernel::kernel_rows(kernels[i]);
-        i += 1;
-    }
-    tables
-}
-
-// The rows of the inverse kernels, outermost first: with them the same stages undo a word.
-fn undoing_tables(plan: Plan) -> [[u16; 16]; 3]
-    requires { ⌜ (badLayers plan ≡ false) × (badKernels plan ≡ false) ⌝ }
-    ensures { λ r. ⌜ Tables (plan .layers) (undoingTable plan) r ⌝ }
-{
-    let m = plan.layers as usize;
-    let kernels = plan.kernels;
-    let mut tables = [[0u16; 16]; 3];
-    let mut i: usize = 0;
-    while i < m {
-        tables[i] = kernel::inverse_rows(kernels[m - 1 - i]);
-        i += 1;
-    }
-    tables
-}
 
 // Writes the word of a payload. Symbols and rows are lent for the work.
 fn payload_word(
@@ -88,7 +29,7 @@ fn payload_word(
 {
     spread::spread(mask, payload, symbols);
     grid::rows_of(symbols, rows);
-    grid::frame_rows(plan.layers as usize, layer_tables(plan), rows);
+    grid::frame_rows(plan.layers as usize, plan_tables::layer_tables(plan), rows);
     grid::store_rows(rows, word);
 }
 
@@ -96,7 +37,7 @@ fn payload_word(
 pub fn frame_encode(plan: Plan, mask: &[u8], payload: &[u8], word: &mut [u8]) -> Answer
     ensures { λ r. ⌜ frameEncode plan (now (mask .entry)) (now (payload .entry)) (now (word .entry)) ≡ (verdict r, now (word .exit)) ⌝ }
 {
-    let answer = encode_check(plan, mask, payload.len(), word.len());
+    let answer = frame_checks::encode_check(plan, mask, payload.len(), word.len());
     if !answer::accepted(answer) {
         return answer;
     }
@@ -114,33 +55,6 @@ pub fn frame_encode(plan: Plan, mask: &[u8], payload: &[u8], word: &mut [u8]) ->
     Answer::Done
 }
 
-// The checks of frame undo that do not look at the word's symbols, in checking order.
-fn request_check(plan: Plan, mask: &[u8], word_length: usize, room: usize) -> Answer
-    ensures { λ r. ⌜ verdict r ≡ settle (requestChecks plan (now (mask .entry)) «word_length» room) done ⌝ }
-{
-    if !plan::has_layers(plan) {
-        return Answer::BadLayers;
-    }
-    if !plan::has_kernels(plan) {
-        return Answer::NoKernel;
-    }
-    let n = plan::bytes(plan);
-    if mask.len() != n {
-        return Answer::WrongLength;
-    }
-    if word_length != n {
-        return Answer::WrongLength;
-    }
-    let bytes = mask::payload_bytes(n, mask);
-    if bytes == 0 {
-        return Answer::BadMask;
-    }
-    if room < bytes {
-        return Answer::ShortOutput;
-    }
-    Answer::Done
-}
-
 // Writes the symbols of a word. Rows are lent for the work.
 fn word_symbols(plan: Plan, word: &[u8], rows: &mut [u16], symbols: &mut [u8])
     requires { ⌜ (badLayers plan ≡ false) × (badKernels plan ≡ false) ⌝ }
@@ -148,7 +62,11 @@ fn word_symbols(plan: Plan, word: &[u8], rows: &mut [u16], symbols: &mut [u8])
     ensures { λ _. ⌜ unpack (now (symbols .exit)) ≡ frameSymbols plan (now (word .entry)) ⌝ }
 {
     grid::rows_of(word, rows);
-    grid::frame_rows(plan.layers as usize, undoing_tables(plan), rows);
+    grid::frame_rows(
+        plan.layers as usize,
+        plan_tables::undoing_tables(plan),
+        rows,
+    );
     grid::store_rows(rows, symbols);
 }
 
@@ -178,7 +96,7 @@ fn undo_word(
 pub fn frame_undo(plan: Plan, mask: &[u8], word: &[u8], payload: &mut [u8]) -> Answer
     ensures { λ r. ⌜ frameUndo plan (now (mask .entry)) (now (word .entry)) (now (payload .entry)) ≡ (verdict r, now (payload .exit)) ⌝ }
 {
-    let request = request_check(plan, mask, word.len(), payload.len());
+    let request = frame_checks::request_check(plan, mask, word.len(), payload.len());
     if !answer::accepted(request) {
         return request;
     }

@@ -16,8 +16,8 @@ use Rattle.bits.specs.Packed.{unpack}
 use Rattle.bits.proofs.Packed.{length-pack}
 use Rattle.answer.specs.Verdict.{Verdict, done, penalty, isAccepted, Check, settle, after}
 use Rattle.answer.proofs.Settle.{None, none-of, settle-none, settle-stopped, after-refused}
-use Rattle.mask.specs.Mask.{marked, badMask, payloadBytes}
-use Rattle.mask.proofs.Mask.{bytes-marked, bytes-eighth}
+use Rattle.mask.specs.Mask.{marked, payloadBytes}
+use Rattle.mask.proofs.Mask.{bytes-eighth}
 use Rattle.polar.specs.Code.{channel}
 use Rattle.list.specs.Best.{IsBestAt, BestFirst, begins, empty}
 use Rattle.list.proofs.Paths.{paths-long}
@@ -31,11 +31,13 @@ use Rattle.grid.specs.Grid.{rowsBits}
 use Rattle.plan.specs.Pairs.{frameCode}
 use Rattle.path.specs.Path.{HasSymbols, pathAt}
 use Rattle.path.specs.declared.Path.{Path}
-use Rattle.decode.specs.Jobs.{valueCheck}
+use Rattle.decode_checks.specs.Checks.{valueCheck}
+use Rattle.list_checks.specs.Checks.{listDecodeChecks}
+use Rattle.list_checks.proofs.Marks.{marked-bytes}
 use Rattle.list_run.specs.Run.{framePaths, ListRun}
 use Rattle.agreeing.specs.Agreeing.{payloadOf, agreesAt}
 use Rattle.list_decode.specs.Exact.{BestAgreeing}
-use Rattle.list_decode.specs.Jobs.{listDecodeChecks, finalPaths, finalPenalty, agreeingPaths, verdictOf, firstPayload, listDecode}
+use Rattle.list_decode.specs.Jobs.{finalPaths, finalPenalty, agreeingPaths, verdictOf, firstPayload, listDecode}
 use Rattle.list_decode.proofs.Two.{inner, outer, two-least, two-paths}
 use Rattle.agreeing.specs.Found.{symbolsAt, recordAgrees, recordPenalty, BestRecord, HandedOut}
 
@@ -59,20 +61,15 @@ pub record ListAccepted (p : Plan) (L : ℕ) (values : List ℤ) (mask : List �
   pub payload-room : payloadBytes 32 mask ≤ payloadRoom
   pub scratch-room : 8192 ≤ scratchRoom
 
--- Each byte of its payload fills eight marked phases.
-pub marked-bytes : (mask : List ℕ) → length mask ≡ 32 → badMask mask ≡ false → 8 * payloadBytes 32 mask ≡ marked mask
-unfolding marked
-marked-bytes mask l g = bytes-marked 32 mask l g
-
 pub list-passes : (p : Plan) (L : ℕ) (values : List ℤ) (mask : List ℕ) (scratchRoom payloadRoom : ℕ) → None (listDecodeChecks p L values mask scratchRoom payloadRoom)
     → ListAccepted p L values mask scratchRoom payloadRoom
 unfolding listDecodeChecks
 list-passes p L values mask scratchRoom payloadRoom n =
-    let layered : not (eqb (p .layers) 2) ≡ false = search (n .0, n .1 .0, n .1 .1 .0) in
-    let known : badKernels p ≡ false = search (n .0, n .1 .0, n .1 .1 .0) in
-    let size : (ltb L 1 || ltb 8 L) ≡ false = search (n .0, n .1 .0, n .1 .1 .0) in
-    let few : ltb (marked mask) 24 ≡ false = search (n .1 .1 .1 .1 .1 .0, n .1 .1 .1 .1 .1 .1 .0) in
-    let room : (ltb payloadRoom (marked mask / 8) || ltb scratchRoom 8192) ≡ false = search (n .1 .1 .1 .1 .1 .0, n .1 .1 .1 .1 .1 .1 .0) in
+    let layered : not (eqb (p .layers) 2) ≡ false = n .0 in
+    let known : badKernels p ≡ false = n .1 .0 in
+    let size : (ltb L 1 || ltb 8 L) ≡ false = n .1 .1 .0 in
+    let few : ltb (marked mask) 24 ≡ false = n .1 .1 .1 .1 .1 .0 in
+    let room : (ltb payloadRoom (marked mask / 8) || ltb scratchRoom 8192) ≡ false = n .1 .1 .1 .1 .1 .1 .0 in
     let t = eqb-true (p .layers) 2 (not-false _ layered) in
     let s = or-eq-false (ltb L 1) (ltb 8 L) size in
     let h = or-eq-false _ _ (n .1 .1 .1 .0) in

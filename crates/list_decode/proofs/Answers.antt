@@ -24,7 +24,8 @@ use Rattle.plan.specs.Plan.{planCode, symbolCount}
 use Rattle.plan.proofs.Layered.{plan-size}
 use Rattle.decode.specs.Jobs.{decided}
 use Rattle.agreeing.specs.Agreeing.{agreesAt}
-use Rattle.list_decode.specs.Jobs.{listDecodeChecks, finalPaths, finalPenalty, agreeingPaths, verdictOf, listDecode}
+use Rattle.list_checks.specs.Checks.{listDecodeChecks}
+use Rattle.list_decode.specs.Jobs.{finalPaths, finalPenalty, agreeingPaths, verdictOf, listDecode}
 
 module _ (p : Plan) (L : ℕ) (values : List ℤ) (mask oldScratch oldPayload : List ℕ) where
   -- No final path's checksum agrees.

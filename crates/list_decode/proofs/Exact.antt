@@ -21,7 +21,8 @@ use Rattle.list.proofs.Paths.{paths-long}
 use Rattle.list.proofs.Best.{best-first, best-only, filter-single}
 use Rattle.decode.specs.Jobs.{decided}
 use Rattle.agreeing.specs.Agreeing.{payloadOf, agreesAt}
-use Rattle.list_decode.specs.Jobs.{listDecodeChecks, finalPaths, finalPenalty, verdictOf, firstPayload, listDecode}
+use Rattle.list_checks.specs.Checks.{listDecodeChecks}
+use Rattle.list_decode.specs.Jobs.{finalPaths, finalPenalty, verdictOf, firstPayload, listDecode}
 use Rattle.list_decode.specs.Exact.{AnswerExact}
 use Rattle.list_decode.proofs.Two.{inner, outer, two-symbols, two-least}
 use Rattle.list_decode.proofs.Answers.{list-verdict, final-exact, agreeing-of-one}

@@ -1,37 +1,20 @@
 -- What list decoding answers and writes, from its inputs. Assumes nothing.
-use mathlib.Core.Bool.{Bool, not, _||_}
+use mathlib.Core.Bool.{Bool}
 use mathlib.Core.List.{List, [], _∷_}
-use Prim.Native.Nat.{ℕ, _/_}
-use lib.Dec.{eqb, ltb}
+use Prim.Native.Nat.{ℕ}
 use lib.IntN.{ℤ}
 use lib.ListN.{length, replicate}
 use Rattle.base.specs.Bit.{bit}
 use Rattle.bits.specs.Packed.{unpack}
-use Rattle.answer.specs.Verdict.{Verdict, done, penalty, refused, Check, condition, settle, after}
-use Rattle.mask.specs.Mask.{marked, badMask}
+use Rattle.answer.specs.Verdict.{Verdict, done, penalty, refused, settle, after}
 use Rattle.polar.specs.Code.{channel, least}
 use Rattle.list.specs.Sort.{sort}
 use Rattle.list.specs.Best.{filter}
 use Rattle.list.specs.Paths.{paths}
 use Rattle.agreeing.specs.Agreeing.{payloadOf, agreesAt}
 use Rattle.plan.specs.declared.Plan.{Plan}
-use Rattle.plan.specs.Plan.{badKernels, planCode, symbolCount}
-use Rattle.decode.specs.Jobs.{valueCheck}
-
--- The checks of list decoding, in checking order: a plan of another number of layers than two, its kernels, a list size L outside
--- 1 to 8, the lengths of values and mask, the mask, a mask of fewer than 24 marked phases, the room for payload and scratch, and a value
--- outside the range.
-unfoldable pub listDecodeChecks : Plan → ℕ → List ℤ → List ℕ → ℕ → ℕ → List Check
-listDecodeChecks p L values mask scratchRoom payloadRoom =
-    condition 14 (not (eqb (p .layers) 2))
-    ∷ condition 1 (badKernels p)
-    ∷ condition 11 (ltb L 1 || ltb 8 L)
-    ∷ condition 2 (not (eqb (length values) 256) || not (eqb (length mask) 32))
-    ∷ condition 3 (badMask mask)
-    ∷ condition 12 (ltb (marked mask) 24)
-    ∷ condition 5 (ltb payloadRoom (marked mask / 8) || ltb scratchRoom 8192)
-    ∷ valueCheck values
-    ∷ []
+use Rattle.plan.specs.Plan.{planCode, symbolCount}
+use Rattle.list_checks.specs.Checks.{listDecodeChecks}
 
 -- The final paths: those that a list of L keeps after all phases of the frame, in their order.
 abbrev pub finalPaths : Plan → ℕ → List ℤ → List ℕ → List (List Bool)

@@ -1,51 +1,9 @@
-// List decoding with a checksum: the checks, the final paths, and the payload of the best one whose checksum agrees.
+// List decoding with a checksum: the final paths, and the payload of the best one whose checksum agrees.
 ghost use mathlib.Core.Path.{_≡_};
-ghost use Rattle.answer.specs.Verdict.{verdict, done, settle};
-ghost use Rattle.mask.specs.Mask.{payloadBytes};
-ghost use Rattle.list_decode.specs.Jobs.{listDecodeChecks, listDecode};
+ghost use Rattle.answer.specs.Verdict.{verdict};
+ghost use Rattle.list_decode.specs.Jobs.{listDecode};
 use answer::Answer;
 use plan::Plan;
-
-// The checks of list decoding, in checking order. A mask that is refused takes no byte; one of fewer than 24 phases takes fewer than 3.
-fn list_check(
-    plan: Plan,
-    list: usize,
-    values: &[i8],
-    mask: &[u8],
-    bytes: usize,
-    scratch_room: usize,
-    payload_room: usize,
-) -> Answer
-    requires { ⌜ bytes ≡ payloadBytes 32 (now mask) ⌝ }
-    ensures { λ r. ⌜ verdict r ≡ settle (listDecodeChecks plan list (now (values .entry)) (now (mask .entry)) «scratch_room» «payload_room») done ⌝ }
-{
-    if plan.layers != 2 {
-        return Answer::BadLayers;
-    }
-    if !plan::has_kernels(plan) {
-        return Answer::NoKernel;
-    }
-    if (list < 1) | (8 < list) {
-        return Answer::WrongListSize;
-    }
-    if (values.len() != 256) | (mask.len() != 32) {
-        return Answer::WrongLength;
-    }
-    if bytes == 0 {
-        return Answer::BadMask;
-    }
-    if bytes < 3 {
-        return Answer::FewMarks;
-    }
-    if (payload_room < bytes) | (scratch_room < 8192) {
-        return Answer::ShortOutput;
-    }
-    let place = decode::frame_outside(values);
-    if place < 256 {
-        return Answer::ValueOutOfRange(place);
-    }
-    Answer::Done
-}
 
 // List decoding: the payload and the penalty of the best agreeing path, which is the final path of least penalty whose checksum agrees,
 // and of equal penalties the first. The first 8,192 bytes of scratch are left as zeros, also where no checksum agrees.
@@ -60,7 +18,7 @@ pub fn list_decode(
     ensures { λ r. ⌜ listDecode plan list (now (values .entry)) (now (mask .entry)) (now (scratch .entry)) (now (payload .entry)) ≡ (verdict r, now (scratch .exit), now (payload .exit)) ⌝ }
 {
     let bytes = mask::payload_bytes(32, mask);
-    let answer = list_check(
+    let answer = list_checks::list_check(
         plan,
         list,
         values,

@@ -186,14 +186,6 @@ fn follow_parents(
     move_costs(from, n, costs, halves, home);
 }
 
-// How many stay of n paths that split in two.
-fn kept(list: usize, n: usize) -> usize
-    requires { ⌜ n ≤ 8 ⌝ }
-    ensures { λ q. ⌜ q ≡ min list (2 * n) ⌝ }
-{
-    if 2 * n < list { 2 * n } else { list }
-}
-
 // The records after a marked phase, from the least totals on its paths. Answers the order of the candidates.
 fn settle(
     at: usize,
@@ -209,7 +201,7 @@ fn settle(
 {
     let pens = candidate_penalties(pair, n);
     let order = ranking::in_order(&pens);
-    list_phase::next_list(scratch, kept(list, n), at, &order, &pens);
+    list_phase::next_list(scratch, ranking::kept(list, n), at, &order, &pens);
     order
 }
 
@@ -235,7 +227,7 @@ fn marked_phase(
 {
     let order = settle(at, list, n, pair, scratch);
     let from = parents(&order);
-    let keep = kept(list, n);
+    let keep = ranking::kept(list, n);
     follow_parents(&from, keep, paths, costs, halves, rows, home);
     keep
 }
@@ -400,7 +392,7 @@ fn settle_two(
         lane_moves::moved_row(&pair[0], &lanes),
         lane_moves::moved_row(&pair[1], &lanes),
     ];
-    let second = settle(at + 1, list, kept(list, n), &two, scratch);
+    let second = settle(at + 1, list, ranking::kept(list, n), &two, scratch);
     parent_lanes(&second, &lanes)
 }
 
@@ -444,7 +436,7 @@ pub fn two_phases(
 {
     let pair = two_totals(inner, r, s, n, shapes, tables, scratch, costs, halves, rows);
     let from = settle_two(16 * r + s, list, n, &pair, scratch);
-    let count = kept(list, kept(list, n));
+    let count = ranking::kept(list, ranking::kept(list, n));
     let high = shapes[s + 1][0] as usize;
     move_rows(&from, count, 1 << (high - (s + 1)), rows);
     let below = lower_lanes(&from);

@@ -9,7 +9,7 @@ use borrow.Author.Tests.{not-true, not-false}
 use Rattle.answer.specs.Verdict.{done, isAccepted, settle}
 use Rattle.mask.proofs.Mask.{bytes-marked}
 use Rattle.plan.proofs.Layered.{bytes-rows}
-use Rattle.decode.specs.Jobs.{frameDecodeChecks}
+use Rattle.decode_checks.specs.Checks.{frameDecodeChecks}
 use Rattle.decode.proofs.Accepted.{DecodeAccepted, decode-refused, decode-accepted, decode-done, rows-lent}
 use borrow.Author.Needs.{needs}
 use Rattle.decode.proofs.frame_decode.Statement.{statement}

@@ -8,7 +8,7 @@ use lib.Seq.{length-take-le}
 use borrow.Author.Tests.{not-true, not-false}
 use Rattle.answer.specs.Verdict.{done, isAccepted, settle}
 use Rattle.plan.proofs.Layered.{bytes-rows}
-use Rattle.decode.specs.Jobs.{frameFollowChecks}
+use Rattle.decode_checks.specs.Checks.{frameFollowChecks}
 use Rattle.decode.proofs.Accepted.{FollowAccepted, follow-refused, follow-accepted, follow-done, rows-lent}
 use borrow.Author.Needs.{needs}
 use Rattle.decode.proofs.frame_follow.Statement.{statement}

@@ -7,7 +7,7 @@ use lib.ListN.{length, replicate}
 use lib.Seq.{length-take-le}
 use borrow.Author.Tests.{not-true, not-false}
 use Rattle.answer.specs.Verdict.{done, isAccepted, settle}
-use Rattle.frame.specs.Jobs.{encodeChecks}
+use Rattle.frame_checks.specs.Checks.{encodeChecks}
 use Rattle.plan.proofs.Layered.{bytes-rows}
 use Rattle.frame.proofs.Accepted.{EncodeAccepted, encode-accepted, encode-refused, encode-done}
 use borrow.Author.Needs.{needs}

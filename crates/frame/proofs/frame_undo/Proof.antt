@@ -7,7 +7,7 @@ use lib.ListN.{length, replicate}
 use lib.Seq.{length-take-le}
 use borrow.Author.Tests.{not-true, not-false}
 use Rattle.answer.specs.Verdict.{done, isAccepted, settle}
-use Rattle.frame.specs.Jobs.{requestChecks}
+use Rattle.frame_checks.specs.Checks.{requestChecks}
 use Rattle.plan.proofs.Layered.{bytes-rows}
 use Rattle.frame.proofs.Accepted.{RequestAccepted, request-accepted, undo-refused}
 use borrow.Author.Needs.{needs}

@@ -38,7 +38,7 @@ pair-run-requires : tie.Need-pair-run-requires
 pair-run-requires c κs =
     let z = (c .before .before .before .before .before) in
     let o = (c .before .before .before .before) .outer-costs in
-    (z .pre .0, z .pre .1, lanes-wider 127 2032 (o .result) (omega arith) (o .ensures .1), z .pre .4)
+    (z .pre .0, search needs, lanes-wider 127 2032 (o .result) (omega arith) (o .ensures .1), z .pre .4)
 
 put-rows-requires : tie.Need-put-rows-requires
 put-rows-requires c κs = search needs

@@ -7,7 +7,7 @@ use lib.ListN.{length}
 use borrow.Author.Tests.{not-true, not-false}
 use Rattle.answer.specs.Verdict.{verdict, done, isAccepted, settle}
 use Rattle.mask.proofs.Mask.{bytes-le}
-use Rattle.list_decode.specs.Jobs.{listDecodeChecks}
+use Rattle.list_checks.specs.Checks.{listDecodeChecks}
 use Rattle.list_decode.proofs.Accepted.{ListAccepted, list-refused, list-accepted, list-done}
 use borrow.Author.Needs.{needs}
 use Rattle.list_decode.proofs.list_decode.Statement.{statement}
