@@ -2,7 +2,7 @@
 use mathlib.Core.Path.{_≡_, sym, ap, _∙_}
 use mathlib.Core.Bool.{Bool, true, false}
 use mathlib.Core.List.{List, _++_}
-use Prim.Native.Nat.{ℕ, _*_, _/_, _<_}
+use Prim.Native.Nat.{ℕ, suc, _*_, _/_, _<_}
 use native.Mathlib.Omega.{arith}
 use lib.IntN.{ℤ, pos}
 use lib.ListN.{length, take, drop, List·getD-append}
@@ -18,13 +18,17 @@ use Rattle.mask.specs.Mask.{marked}
 use Rattle.mask.proofs.Mask.{bytes-marked, bytes-eighth}
 use Rattle.polar.specs.Code.{channel}
 use Rattle.polar.specs.Follow.{scores, penalties}
-use Rattle.polar.proofs.Follow.{length-scores, length-penalties, length-decode}
+use Rattle.polar.proofs.Least.{least-bound}
+use Rattle.polar.proofs.Values.{score-bound}
+use Rattle.polar.proofs.Follow.{length-scores, length-penalties, length-decode, scores-at, penalties-at}
 use Rattle.polar.proofs.Exact.{score-exact, penalty-exact, marked-sign, unmarked-zero}
+use Rattle.folds.specs.Range.{firstOutside}
+use Rattle.folds.proofs.Signs.{channel-most}
 use Rattle.plan.specs.declared.Plan.{Plan}
 use Rattle.plan.specs.Plan.{planCode, symbolCount, byteCount}
 use Rattle.plan.proofs.Layered.{plan-size, bytes-bits}
 use Rattle.decode.specs.Jobs.{frameFollow, decided, frameDecode}
-use Rattle.decode.specs.Exact.{FrameExact, BySigns}
+use Rattle.decode.specs.Exact.{FrameExact, BySigns, FrameWithin}
 use Rattle.decode.proofs.Accepted.{follow-accepted, decode-accepted}
 
 -- What an accepted job leaves of the scores and penalties of a frame's symbols is exact.
@@ -95,3 +99,29 @@ frame-decode-exact p values mask scores₀ penalties₀ payload₀ ok =
         payload-rest = after-rest _ payload₀ new (ones marks / 8) lp ok;
       },
     )
+
+-- No score of an accepted job is in size above 127 for each of the frame's places, and no penalty is.
+frame-bound : (p : Plan) (values : List ℤ) (u : List Bool) → firstOutside 127 values ≡ length values → length u ≡ symbolCount p → (v : Verdict) → v ≡ done → (scores₀ : List ℤ) (penalties₀ : List ℕ)
+    → FrameWithin p (after v scores₀ (scores (planCode p) (channel values) u)) (after v penalties₀ (penalties (planCode p) (channel values) u))
+frame-bound p values u inside e v ok scores₀ penalties₀ i l =
+    let C = planCode p in
+    let m = channel values in
+    let k : ℕ = symbolCount p in
+    let most = channel-most 127 values inside in
+    let score-is = after-at v scores₀ (scores C m u) k (length-scores C m u ∙ e) ok i (pos 0) l ∙ scores-at C m u i (pos 0) (omega (arith, e)) in
+    let penalty-is = after-at v penalties₀ (penalties C m u) k (length-penalties C m u ∙ e) ok i 0 l ∙ penalties-at C m u i 0 (omega (arith, e)) in
+    (rw (score-is, ← plan-size p) (score-bound C m 127 most (take i u)), rw (penalty-is, ← plan-size p) (least-bound C m 127 most (take (suc i) u)))
+
+pub frame-follow-bound : (p : Plan) (values : List ℤ) (symbols : List ℕ) (scores₀ : List ℤ) (penalties₀ : List ℕ)
+    → let r = frameFollow p values symbols scores₀ penalties₀ in r .0 ≡ done → FrameWithin p (r .1) (r .2)
+unfolding frameFollow
+frame-follow-bound p values symbols scores₀ penalties₀ ok =
+    let q = follow-accepted p values symbols scores₀ penalties₀ (ap isAccepted ok) in
+    frame-bound p values (unpack symbols) (q .ready .inside ∙ sym (q .ready .count)) (length-unpack symbols ∙ ap (λ n. 8 * n) (q .long) ∙ bytes-bits p (q .ready .layered)) _ ok scores₀ penalties₀
+
+pub frame-decode-bound : (p : Plan) (values : List ℤ) (mask : List ℕ) (scores₀ : List ℤ) (penalties₀ payload₀ : List ℕ)
+    → let r = frameDecode p values mask scores₀ penalties₀ payload₀ in r .0 ≡ done → FrameWithin p (r .1) (r .2)
+unfolding frameDecode decided
+frame-decode-bound p values mask scores₀ penalties₀ payload₀ ok =
+    let q = decode-accepted p values mask scores₀ penalties₀ payload₀ (ap isAccepted ok) in
+    frame-bound p values (decided p values mask) (q .ready .inside ∙ sym (q .ready .count)) (length-decode (planCode p) (channel values) (bit (unpack mask)) ∙ plan-size p) _ ok scores₀ penalties₀

@@ -3,7 +3,7 @@ use mathlib.Core.Path.{_≡_}
 use mathlib.Core.Bool.{Bool, true, false}
 use mathlib.Core.List.{List}
 use Prim.Native.Nat.{ℕ, _*_, _/_, _≤_, _<_}
-use lib.IntN.{ℤ, pos}
+use lib.IntN.{ℤ, pos, natAbs}
 use lib.ListN.{length, getD, take, drop}
 use Rattle.base.specs.Bit.{bit}
 use Rattle.bits.specs.Packed.{unpack}
@@ -37,3 +37,7 @@ pub record BySigns (p : Plan) (mask : List ℕ) (u : List Bool) (scores : List �
   pub phase : (j : ℕ) → j < marked mask → (i : ℕ) × (i < symbolCount p) × (bit (unpack mask) i ≡ true) × (ones (take i (unpack mask)) ≡ j)
   pub payload-room : marked mask ≤ 8 * length payload
   pub payload-rest : drop (marked mask / 8) payload ≡ drop (marked mask / 8) payload₀
+
+-- No score of the frame is in size above 127 × 16^m, and no penalty is.
+abbrev pub FrameWithin : Plan → List ℤ → List ℕ → Type 0
+FrameWithin p scores penalties = (i : ℕ) → i < symbolCount p → (natAbs (getD scores i (pos 0)) ≤ symbolCount p * 127) × (getD penalties i 0 ≤ symbolCount p * 127)

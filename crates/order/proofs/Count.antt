@@ -62,7 +62,7 @@ information-bytes p l =
     omega (arith, whole-bytes 32 mask (length-pack 32 (informationBits p)) (omega arith))
 
 -- Where the job information mask is accepted for p bytes, what it leaves begins with a mask of 32 bytes that takes p bytes of
--- payload, and that no job refuses.
+-- payload, and that no job refuses with a plan of two layers.
 pub mask-takes : (p : ℕ) (out : List ℕ) → (informationMask p out) .0 ≡ done
     → let mask = take 32 ((informationMask p out) .1) in (length mask ≡ 32) × (payloadBytes 32 mask ≡ p) × (badMask mask ≡ false)
 unfolding informationMask informationChecks

@@ -47,7 +47,7 @@ pub fn symbols(plan: Plan) -> usize
     1 << (4 * plan.layers as usize)
 }
 
-// How many bytes hold a bit for each of them; 0 where the number of layers is refused.
+// How many bytes hold a bit for each of them; some number up to 512 where the layers are refused.
 pub fn bytes(plan: Plan) -> usize
     ensures { λ r. ⌜ (badLayers plan ≡ false → r ≡ byteCount plan) × (r ≤ 512) ⌝ }
 {
