@@ -408,16 +408,17 @@ static void three_followed(void)
             NOSPRIDDA_WRONG_LENGTH, 0, "frame follow, three layers, 256 values");
 }
 
-/* A plan that every job of frames refuses by this number, but for the payload part, which is empty. */
+/* A plan that the jobs of frames refuse by this number (of list decode see below); the payload part is then empty. */
 static void plan_refused(struct nospridda_plan plan, const uint8_t *mask, uint32_t number, const char *what)
 {
+    const uint8_t word[WORD_BYTES] = {0};
     uint8_t bytes[WORD_BYTES] = {0};
     int8_t values[SYMBOLS] = {-128};
     int32_t scores[SYMBOLS] = {0};
     uint32_t penalties[SYMBOLS] = {0};
 
     outcome(nospridda_frame_encode(plan, mask, WORD_BYTES, &sent, 1, bytes, sizeof bytes), number, 0, what);
-    outcome(nospridda_frame_undo(plan, mask, WORD_BYTES, mask, WORD_BYTES, bytes, sizeof bytes), number, 0, what);
+    outcome(nospridda_frame_undo(plan, mask, WORD_BYTES, word, WORD_BYTES, bytes, sizeof bytes), number, 0, what);
     outcome(nospridda_frame_follow(plan, values, SYMBOLS, mask, WORD_BYTES, scores, SYMBOLS, penalties, SYMBOLS), number,
             0, what);
     outcome(nospridda_frame_decode(plan, values, SYMBOLS, mask, WORD_BYTES, scores, SYMBOLS, penalties, SYMBOLS,
@@ -431,7 +432,7 @@ static void plans(const uint8_t *mask)
     plan_refused(plan_of(0, 2, 2, 2), mask, NOSPRIDDA_BAD_LAYERS, "no layer");
     plan_refused(plan_of(4, 2, 2, 2), mask, NOSPRIDDA_BAD_LAYERS, "four layers");
     plan_refused(plan_of(255, 2, 2, 2), mask, NOSPRIDDA_BAD_LAYERS, "255 layers");
-    plan_refused(plan_of(0, 3, 3, 3), mask, NOSPRIDDA_BAD_LAYERS, "no layer, and no kernel");
+    plan_refused(plan_of(4, 3, 3, 3), mask, NOSPRIDDA_BAD_LAYERS, "four layers, and no kernel");
     plan_refused(plan_of(1, 3, 2, 2), mask, NOSPRIDDA_NO_KERNEL, "one layer, kernel 3");
     plan_refused(plan_of(2, 2, 3, 2), mask, NOSPRIDDA_NO_KERNEL, "two layers, kernel 3");
     plan_refused(plan_of(3, 3, 2, 2), mask, NOSPRIDDA_NO_KERNEL, "three layers, kernel 3 in the first");

@@ -69,9 +69,9 @@
 #define NOSPRIDDA_MARK_BYTES 16   /* a bit for each of them, packed: the blanking mask */
 #define NOSPRIDDA_LIST_BYTES 8192 /* the scratch that list decode is lent */
 
-/* The sizes of a frame of m layers, m being 1, 2 or 3; those of an array where m is a constant. */
-#define NOSPRIDDA_SYMBOLS(m) ((size_t)1 << (4 * (m)))     /* symbols, values, scores and penalties: 16, 256 or 4096 */
-#define NOSPRIDDA_BYTES(m) ((size_t)1 << (4 * (m) - 3))   /* symbols, word or mask, packed; the longest payload: 2, 32 or 512 */
+/* The sizes of a frame of m layers, m being 1, 2 or 3; where m is a constant they can be sizes of arrays. */
+#define NOSPRIDDA_SYMBOLS(m) ((size_t)1 << (4 * (m)))   /* symbols, values, scores and penalties: 16, 256 or 4096 */
+#define NOSPRIDDA_BYTES(m) (NOSPRIDDA_SYMBOLS(m) / 8)   /* symbols, word or mask, packed; the longest payload: 2, 32 or 512 */
 
 /* The most paths that list decode keeps. */
 #define NOSPRIDDA_LIST_PATHS 8
@@ -86,7 +86,7 @@ extern "C" {
 /* The numbers of an answer. */
 enum nospridda_number {
     NOSPRIDDA_ACCEPTED = 0,
-    NOSPRIDDA_NO_KERNEL = 1,          /* a kernel number, of a plan one of its m layers, is not 0, 1 or 2 */
+    NOSPRIDDA_NO_KERNEL = 1,          /* a kernel number, of a plan that of one of its m layers, is not 0, 1 or 2 */
     NOSPRIDDA_WRONG_LENGTH = 2,       /* an input other than a payload has not the length that its job names */
     NOSPRIDDA_BAD_MASK = 3,           /* a mask marks no phase, or a count that is not a multiple of 8 */
     NOSPRIDDA_WRONG_PAYLOAD = 4,      /* a payload to encode has not the bytes that its mask asks for */

@@ -70,7 +70,7 @@ pub fn count() -> ExitCode {
     information_mask(PAYLOAD, &mut mask);
     let mut scratch = vec![0; 8192];
     println!(
-        "wrong of {FRAMES} frames, pair (2, 2), k = {}; of lists: refused by 13 + another payload",
+        "wrong of {FRAMES} frames, two layers of kernel 2, k = {}; of lists: refused by 13 + another payload",
         8 * PAYLOAD
     );
     println!("noise  frame decode   list 1   list 2   list 4   list 8");

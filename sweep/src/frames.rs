@@ -490,7 +490,7 @@ const ENCODE: [(u32, Fault); 6] = [
 ];
 
 const UNDO: [(u32, Fault); 6] = [
-    (14, |request| request.plan.layers = 0),
+    (14, |request| request.plan.layers = 4),
     (1, |request| request.plan.kernels[0] = 255),
     (2, |request| request.input.push(0)),
     (3, |request| request.mask[0] ^= 1),
