@@ -1,92 +1,26 @@
 // Frame follow and frame decode at their edges, for one, two and three layers: the ends of the range, every refusal and which of
-// two comes first, the places that are named, and what lies past the written parts.
-ghost use Prim.Native.Nat.{_+_, _≤_};
+// two comes first, the places that are named, and what lies past the written parts. The requests are the lines of the input: the
+// job, layers, three kernels, how many values, most of them, the others, and the two places of these, how many bytes of symbols or
+// mask, most of them, what is put among them, and the room for scores, penalties and payload. Four more are lent than are needed.
+ghost use Prim.Native.Nat.{_≤_};
 use answer::Answer;
+use libc::STDIN_FILENO;
 use libc::STDOUT_FILENO;
 use plan::Plan;
+use report::rows;
 
 // The values that a request is made of.
 const VALUES: [i8; 6] = [127, -127, 1, -1, 0, -128];
 
 // Four places of its bytes, and what is put there; place 513 is past all of them. The second is the information mask of one byte,
 // the third and fourth mark no multiple of 8.
-const PUT: [[u16; 8]; 6] = [
+const PUT: [[u64; 8]; 6] = [
     [513, 0, 513, 0, 513, 0, 513, 0],
     [23, 1, 27, 1, 29, 1, 31, 0x37],
     [0, 15, 513, 0, 513, 0, 513, 0],
     [30, 15, 31, 255, 513, 0, 513, 0],
     [511, 255, 513, 0, 513, 0, 513, 0],
     [1, 255, 513, 0, 513, 0, 513, 0],
-];
-
-// The requests: 1 to decode, layers, three kernels, how many values, most of them, the others, and the two places of these, how
-// many bytes of symbols or mask, most of them, what is put among them, and which room is short: 1 scores, 2 penalties, 3 payload.
-const CASES: [[u16; 14]; 65] = [
-    [0, 2, 2, 2, 255, 256, 0, 0, 0, 0, 32, 0, 0, 0],
-    [0, 2, 2, 2, 255, 256, 1, 1, 0, 0, 32, 0, 0, 0],
-    [0, 2, 1, 0, 255, 256, 0, 0, 0, 0, 32, 255, 0, 0],
-    [1, 2, 2, 2, 255, 256, 3, 2, 0, 0, 32, 0, 1, 0],
-    [1, 2, 0, 1, 255, 256, 3, 2, 0, 0, 32, 255, 0, 0],
-    [1, 2, 1, 2, 255, 256, 4, 4, 0, 0, 32, 255, 0, 0],
-    [0, 2, 3, 0, 255, 256, 2, 2, 0, 0, 32, 0, 0, 0],
-    [0, 2, 0, 255, 255, 256, 2, 2, 0, 0, 32, 0, 0, 0],
-    [0, 2, 0, 0, 255, 255, 2, 2, 0, 0, 32, 0, 0, 0],
-    [0, 2, 0, 0, 255, 256, 2, 2, 0, 0, 31, 0, 0, 0],
-    [0, 2, 1, 2, 255, 256, 2, 2, 0, 0, 32, 0, 0, 1],
-    [0, 2, 1, 2, 255, 256, 2, 2, 0, 0, 32, 0, 0, 2],
-    [0, 2, 0, 0, 255, 256, 2, 5, 200, 200, 32, 0, 0, 0],
-    [0, 2, 0, 0, 255, 256, 2, 5, 7, 255, 32, 0, 0, 0],
-    [0, 2, 3, 0, 255, 255, 5, 5, 0, 0, 32, 0, 0, 0],
-    [0, 2, 1, 2, 255, 255, 5, 5, 0, 0, 32, 0, 0, 1],
-    [0, 2, 1, 2, 255, 256, 2, 5, 7, 255, 32, 0, 0, 1],
-    [1, 2, 3, 0, 255, 256, 2, 2, 0, 0, 32, 0, 1, 0],
-    [1, 2, 0, 0, 255, 255, 2, 2, 0, 0, 32, 0, 1, 0],
-    [1, 2, 0, 0, 255, 256, 2, 2, 0, 0, 31, 255, 0, 0],
-    [1, 2, 0, 0, 255, 256, 2, 2, 0, 0, 32, 0, 3, 0],
-    [1, 2, 0, 0, 255, 256, 2, 2, 0, 0, 32, 0, 0, 0],
-    [1, 2, 1, 2, 255, 256, 2, 2, 0, 0, 32, 255, 0, 3],
-    [1, 2, 0, 0, 255, 256, 2, 5, 9, 30, 32, 255, 0, 0],
-    [1, 2, 0, 3, 255, 255, 5, 5, 0, 0, 32, 0, 0, 0],
-    [1, 2, 0, 0, 255, 255, 5, 5, 0, 0, 32, 0, 0, 0],
-    [1, 2, 1, 2, 255, 256, 2, 5, 9, 30, 32, 255, 2, 3],
-    [1, 2, 1, 2, 255, 256, 2, 5, 9, 30, 32, 255, 0, 3],
-    [0, 0, 0, 0, 0, 256, 2, 2, 0, 0, 32, 0, 0, 0],
-    [1, 0, 0, 0, 0, 256, 2, 2, 0, 0, 32, 255, 0, 0],
-    [0, 4, 0, 0, 0, 256, 2, 2, 0, 0, 32, 0, 0, 0],
-    [1, 4, 0, 0, 0, 256, 2, 2, 0, 0, 32, 255, 0, 0],
-    [0, 255, 0, 0, 0, 256, 2, 2, 0, 0, 32, 0, 0, 0],
-    [1, 255, 0, 0, 0, 256, 2, 2, 0, 0, 32, 255, 0, 0],
-    [0, 4, 3, 0, 0, 256, 2, 2, 0, 0, 32, 0, 0, 0],
-    [1, 0, 3, 3, 3, 256, 2, 2, 0, 0, 32, 0, 0, 0],
-    [0, 3, 3, 0, 0, 4096, 2, 2, 0, 0, 512, 0, 0, 0],
-    [0, 3, 0, 3, 0, 4096, 2, 2, 0, 0, 512, 0, 0, 0],
-    [0, 3, 0, 0, 3, 4096, 2, 2, 0, 0, 512, 0, 0, 0],
-    [1, 1, 3, 0, 0, 16, 2, 2, 0, 0, 2, 255, 0, 0],
-    [0, 1, 1, 255, 255, 16, 0, 1, 3, 9, 2, 0, 0, 0],
-    [1, 1, 2, 255, 255, 16, 3, 2, 0, 0, 2, 255, 0, 0],
-    [0, 1, 0, 1, 2, 15, 2, 2, 0, 0, 2, 0, 0, 0],
-    [0, 1, 0, 1, 2, 17, 2, 2, 0, 0, 2, 0, 0, 0],
-    [1, 1, 0, 1, 2, 16, 2, 2, 0, 0, 1, 255, 0, 0],
-    [0, 1, 0, 1, 2, 16, 2, 2, 0, 0, 3, 0, 0, 0],
-    [0, 1, 0, 1, 2, 16, 2, 2, 0, 0, 2, 0, 0, 1],
-    [1, 1, 0, 1, 2, 16, 2, 2, 0, 0, 2, 255, 0, 2],
-    [1, 1, 0, 1, 2, 16, 2, 2, 0, 0, 2, 255, 0, 3],
-    [0, 1, 0, 1, 2, 16, 2, 5, 15, 15, 2, 0, 0, 0],
-    [0, 2, 0, 1, 2, 257, 2, 2, 0, 0, 32, 0, 0, 0],
-    [0, 2, 0, 1, 2, 256, 2, 2, 0, 0, 33, 0, 0, 0],
-    [0, 3, 0, 1, 2, 4095, 2, 2, 0, 0, 512, 0, 0, 0],
-    [0, 3, 0, 1, 2, 4097, 2, 2, 0, 0, 512, 0, 0, 0],
-    [1, 3, 0, 1, 2, 4096, 2, 2, 0, 0, 511, 255, 0, 0],
-    [0, 3, 0, 1, 2, 4096, 2, 2, 0, 0, 513, 0, 0, 0],
-    [0, 3, 0, 1, 2, 4096, 2, 2, 0, 0, 512, 0, 0, 1],
-    [1, 3, 0, 1, 2, 4096, 2, 2, 0, 0, 512, 255, 0, 2],
-    [1, 3, 0, 1, 2, 4096, 2, 2, 0, 0, 512, 255, 0, 3],
-    [0, 3, 0, 1, 2, 4096, 2, 5, 4095, 4095, 512, 0, 0, 0],
-    [1, 1, 1, 0, 0, 16, 0, 1, 15, 4, 2, 0, 5, 0],
-    [0, 3, 2, 1, 0, 4096, 0, 0, 0, 0, 512, 0, 0, 0],
-    [0, 3, 1, 2, 0, 4096, 0, 3, 4095, 77, 512, 255, 0, 0],
-    [1, 3, 0, 1, 2, 4096, 0, 0, 0, 0, 512, 0, 4, 0],
-    [1, 3, 0, 1, 2, 4096, 3, 2, 0, 0, 512, 255, 0, 0],
 ];
 
 // Whether all scores from an index on are -999.
@@ -114,43 +48,48 @@ fn penalties_kept(penalties: &[u32], from: usize) -> bool {
 }
 
 // Values: one, and another at two places.
-fn values_of(row: [u16; 14]) -> [i8; 4098] {
+fn values_of(row: [u64; 32]) -> [i8; 4098] {
     let all = VALUES;
-    let mut values = [all[row[6] as usize % 6]; 4098];
-    let other = all[row[7] as usize % 6];
-    values[row[8] as usize % 4098] = other;
-    values[row[9] as usize % 4098] = other;
+    let mut values = [all[rows::at_most(5, row[5])]; 4098];
+    let other = all[rows::at_most(5, row[6])];
+    values[rows::at_most(4097, row[7])] = other;
+    values[rows::at_most(4097, row[8])] = other;
     values
 }
 
 // Bytes: one, and others at four places.
-fn bytes_with(most: u8, put: [u16; 8]) -> [u8; 514] {
+fn bytes_with(most: u8, put: [u64; 8]) -> [u8; 514] {
     let mut bytes = [most; 514];
     let mut i: usize = 0;
     while i < 4 {
-        bytes[put[2 * i] as usize % 514] = (put[2 * i + 1] % 256) as u8;
+        bytes[rows::at_most(513, put[2 * i])] = rows::byte(put[2 * i + 1]);
         i += 1;
     }
     bytes
 }
 
-fn bytes_of(row: [u16; 14]) -> [u8; 514] {
-    bytes_with((row[11] % 256) as u8, PUT[row[12] as usize % 6])
+fn put_of(kind: u64) -> [u64; 8] {
+    PUT[rows::at_most(5, kind)]
 }
 
-// The job, and the numbers of the request.
-fn say_request(row: [u16; 14]) {
-    if row[0] == 1 {
-        io::write_all(STDOUT_FILENO, b"decode");
-    } else {
-        io::write_all(STDOUT_FILENO, b"follow");
+fn plan_of(row: [u64; 32]) -> Plan {
+    Plan {
+        layers: rows::byte(row[0]),
+        kernels: [rows::byte(row[1]), rows::byte(row[2]), rows::byte(row[3])],
     }
-    let mut i: usize = 1;
-    while i < 14 {
-        io::write_all(STDOUT_FILENO, b" ");
-        io::print_decimal(STDOUT_FILENO, row[i] as u64);
-        i += 1;
+}
+
+// How many symbols a frame of some layers has.
+fn count_of(layers: u64) -> usize
+    ensures { λ r. ⌜ (8 ≤ r) × (r ≤ 4096) ⌝ }
+{
+    if layers == 1 {
+        return 16;
     }
+    if layers == 3 {
+        return 4096;
+    }
+    256
 }
 
 fn say_penalty(x: u32) {
@@ -158,126 +97,94 @@ fn say_penalty(x: u32) {
     io::print_decimal(STDOUT_FILENO, x as u64);
 }
 
+// The first and the last of n scores and penalties.
+fn say_ends(scores: &[i32; 4100], penalties: &[u32; 4100], n: usize)
+    requires { ⌜ (8 ≤ n) × (n ≤ 4096) ⌝ }
+{
+    io::write_all(STDOUT_FILENO, b", scores");
+    report::say_score(scores[0]);
+    report::say_score(scores[n - 1]);
+    io::write_all(STDOUT_FILENO, b", penalties");
+    say_penalty(penalties[0]);
+    say_penalty(penalties[n - 1]);
+}
+
 // An answer; accepted the first and the last of n scores and penalties, and whether what lies past them stays; refused
 // whether both buffers were kept.
-fn say(a: Answer, scores: [i32; 4100], penalties: [u32; 4100], n: usize)
-    requires { ⌜ (1 ≤ n) × (n ≤ 4096) ⌝ }
+fn say(line: &[u8], a: Answer, scores: &[i32; 4100], penalties: &[u32; 4100], n: usize)
+    requires { ⌜ (8 ≤ n) × (n ≤ 4096) ⌝ }
 {
-    report::say_answer(b"", a);
+    report::say_answer(line, a);
     let mut from: usize = 0;
     if answer::accepted(a) {
-        io::write_all(STDOUT_FILENO, b", scores");
-        report::say_score(scores[0]);
-        report::say_score(scores[n - 1]);
-        io::write_all(STDOUT_FILENO, b", penalties");
-        say_penalty(penalties[0]);
-        say_penalty(penalties[n - 1]);
+        say_ends(scores, penalties, n);
         from = n;
     }
-    report::say_kept(scores_kept(&scores, from) && penalties_kept(&penalties, from));
+    report::say_kept(scores_kept(scores, from) && penalties_kept(penalties, from));
 }
 
-// The room of a payload.
-fn say_payload(payload: [u8; 516], n: usize)
-    requires { ⌜ n ≤ 516 ⌝ }
-{
-    io::write_all(STDOUT_FILENO, b"  payload ");
-    report::say_bytes(&payload[..n]);
-    io::write_all(STDOUT_FILENO, b"\n");
-}
-
-// The plan of a request.
-fn plan_of(row: [u16; 14]) -> Plan {
-    Plan {
-        layers: (row[1] % 256) as u8,
-        kernels: [
-            (row[2] % 256) as u8,
-            (row[3] % 256) as u8,
-            (row[4] % 256) as u8,
-        ],
+// The room of a payload, where there is one.
+fn say_payload(line: &[u8], payload: &[u8]) {
+    if rows::first(line) == b'd' {
+        io::write_all(STDOUT_FILENO, b"  payload ");
+        report::say_bytes(payload);
+        io::write_all(STDOUT_FILENO, b"\n");
     }
 }
 
-// How many symbols a frame of a request has.
-fn count_of(row: [u16; 14]) -> usize
-    ensures { λ r. ⌜ (8 ≤ r) × (r ≤ 4096) ⌝ }
-{
-    if row[1] == 1 {
-        return 16;
+// The job, and what it answers.
+fn answered(
+    line: &[u8],
+    plan: Plan,
+    values: &[i8],
+    bytes: &[u8],
+    scores: &mut [i32],
+    penalties: &mut [u32],
+    payload: &mut [u8],
+) -> Answer {
+    if rows::first(line) == b'd' {
+        decode::frame_decode(plan, values, bytes, scores, penalties, payload)
+    } else {
+        decode::frame_follow(plan, values, bytes, scores, penalties)
     }
-    if row[1] == 3 {
-        return 4096;
-    }
-    256
 }
 
-// A room for n, and for four more or one less.
-fn room_of(n: usize, short: bool) -> usize
-    requires { ⌜ (1 ≤ n) × (n ≤ 4096) ⌝ }
-    ensures { λ r. ⌜ r ≤ n + 4 ⌝ }
-{
-    if short {
-        return n - 1;
-    }
-    n + 4
-}
-
-fn follow(row: [u16; 14]) {
-    let n = count_of(row);
-    let n_values = row[5] as usize % 4099;
-    let n_bytes = row[10] as usize % 514;
-    let values = values_of(row);
-    let symbols = bytes_of(row);
-    let mut scores = [-999i32; 4100];
-    let mut penalties = [999u32; 4100];
-    let score_room = room_of(n, row[13] == 1);
-    let penalty_room = room_of(n, row[13] == 2);
-    let a = decode::frame_follow(
-        plan_of(row),
-        &values[..n_values],
-        &symbols[..n_bytes],
-        &mut scores[..score_room],
-        &mut penalties[..penalty_room],
-    );
-    say(a, scores, penalties, n);
-}
-
-fn decoded(row: [u16; 14]) {
-    let n = count_of(row);
-    let n_values = row[5] as usize % 4099;
-    let n_bytes = row[10] as usize % 514;
-    let values = values_of(row);
-    let mask = bytes_of(row);
+// A request with as much of the buffers as it asks for.
+fn lent(line: &[u8], row: [u64; 32], values: &[i8], bytes: &[u8]) {
     let mut scores = [-999i32; 4100];
     let mut penalties = [999u32; 4100];
     let mut payload = [0x5au8; 516];
-    let score_room = room_of(n, row[13] == 1);
-    let penalty_room = room_of(n, row[13] == 2);
-    let room = room_of(n / 8, row[13] == 3);
-    let a = decode::frame_decode(
+    let a = answered(
+        line,
         plan_of(row),
-        &values[..n_values],
-        &mask[..n_bytes],
-        &mut scores[..score_room],
-        &mut penalties[..penalty_room],
-        &mut payload[..room],
+        values,
+        bytes,
+        rows::room_i32(&mut scores, row[12]),
+        rows::room_u32(&mut penalties, row[13]),
+        rows::room(&mut payload, row[14]),
     );
-    say(a, scores, penalties, n);
-    say_payload(payload, room);
+    say(line, a, &scores, &penalties, count_of(row[0]));
+    say_payload(line, rows::front(&payload, row[14]));
 }
 
-fn all_cases() {
-    let cases = CASES;
-    let mut i: usize = 0;
-    while i < 65 {
-        let row = cases[i];
-        say_request(row);
-        if row[0] == 1 {
-            decoded(row);
-        } else {
-            follow(row);
-        }
-        i += 1;
+fn run(line: &[u8]) {
+    let row = rows::numbers(line);
+    let values = values_of(row);
+    let bytes = bytes_with(rows::byte(row[10]), put_of(row[11]));
+    lent(
+        line,
+        row,
+        rows::front_values(&values, row[4]),
+        rows::front(&bytes, row[9]),
+    );
+}
+
+fn all_cases(text: &[u8]) {
+    let mut at: usize = 0;
+    while at < text.len() {
+        let end = rows::line_end(text, at);
+        run(&text[at..end]);
+        at = end + 1;
     }
 }
 
@@ -354,7 +261,9 @@ fn one_layer(kernel: u8) {
 }
 
 fn main() {
-    all_cases();
+    let mut text = io::large_buffer();
+    let n = io::read_full(STDIN_FILENO, &mut text);
+    all_cases(&text[..n]);
     one_layer(0);
     one_layer(1);
     one_layer(2);

@@ -1,135 +1,14 @@
 // Frame encode, frame undo, the payload part and the information mask at their edges, for one, two and three layers: every refusal and
-// which of two comes first, the places that are named, and what lies past a written part. Buffers hold 5a before a job.
-ghost use Prim.Native.Nat.{_≤_};
+// which of two comes first, the places that are named, and what lies past a written part. Buffers hold 5a before a job. The requests are
+// the lines of the input: the layers, three kernels, which mask (see `mask_byte`), the lengths of mask, payload (or word, or lent bytes)
+// and buffer, and the two phases whose symbols are 1; 9999 in place of them stands for a text. Then 1 if the word to undo was made with
+// the first two kernels exchanged, 2 if the text is the word. A kernel's request has its number and a word, an information mask's the
+// number of bytes and the room.
 use answer::Answer;
+use libc::STDIN_FILENO;
 use libc::STDOUT_FILENO;
 use plan::Plan;
-
-// A case in ten numbers: the layers, three kernels, which mask (see `mask_byte`), the lengths of mask, payload (or word, or lent bytes) and
-// buffer, and the two phases whose symbols are 1; 9999 in place of them stands for a text.
-const ENCODE: [[usize; 10]; 44] = [
-    [2, 0, 1, 3, 6, 32, 12, 36, 9999, 0],
-    [2, 1, 0, 255, 6, 32, 12, 36, 9999, 0],
-    [2, 1, 2, 0, 6, 32, 12, 36, 9999, 0],
-    [2, 2, 2, 0, 6, 32, 12, 36, 9999, 0],
-    [2, 2, 1, 0, 1, 32, 32, 36, 200, 255],
-    [2, 0, 2, 0, 2, 32, 1, 36, 0, 7],
-    [2, 3, 0, 0, 2, 32, 1, 36, 0, 7],
-    [2, 0, 255, 0, 2, 32, 1, 36, 0, 7],
-    [2, 0, 0, 0, 1, 31, 1, 36, 0, 7],
-    [2, 0, 0, 0, 1, 33, 1, 36, 0, 7],
-    [2, 0, 0, 0, 0, 32, 1, 36, 0, 7],
-    [2, 0, 0, 0, 3, 32, 1, 36, 0, 7],
-    [2, 0, 0, 0, 2, 32, 2, 36, 0, 7],
-    [2, 0, 0, 0, 2, 32, 1, 31, 0, 7],
-    [2, 3, 0, 0, 1, 31, 1, 36, 0, 7],
-    [2, 0, 0, 0, 0, 31, 1, 36, 0, 7],
-    [2, 0, 0, 0, 3, 32, 2, 36, 0, 7],
-    [2, 0, 0, 0, 2, 32, 2, 31, 0, 7],
-    [1, 0, 3, 255, 1, 2, 2, 6, 9999, 0],
-    [1, 1, 3, 255, 1, 2, 2, 6, 9999, 0],
-    [1, 2, 3, 255, 1, 2, 2, 6, 9999, 0],
-    [1, 1, 0, 0, 2, 2, 1, 6, 0, 7],
-    [1, 3, 0, 0, 1, 2, 2, 6, 0, 7],
-    [1, 0, 0, 0, 1, 1, 2, 6, 0, 7],
-    [1, 0, 0, 0, 1, 3, 2, 6, 0, 7],
-    [1, 0, 0, 0, 3, 2, 1, 6, 0, 7],
-    [1, 0, 0, 0, 1, 2, 1, 6, 0, 7],
-    [1, 0, 0, 0, 1, 2, 3, 6, 0, 7],
-    [1, 0, 0, 0, 1, 2, 2, 1, 0, 7],
-    [3, 0, 1, 2, 6, 512, 172, 516, 9999, 0],
-    [3, 2, 1, 0, 1, 512, 512, 516, 9999, 0],
-    [3, 1, 2, 0, 2, 512, 1, 516, 0, 7],
-    [3, 3, 0, 0, 2, 512, 1, 516, 0, 7],
-    [3, 0, 3, 0, 2, 512, 1, 516, 0, 7],
-    [3, 0, 0, 3, 2, 512, 1, 516, 0, 7],
-    [3, 0, 0, 0, 1, 511, 1, 516, 0, 7],
-    [3, 0, 0, 0, 1, 513, 1, 516, 0, 7],
-    [3, 0, 0, 0, 6, 512, 171, 516, 0, 7],
-    [3, 0, 0, 0, 6, 512, 173, 516, 0, 7],
-    [3, 0, 0, 0, 2, 512, 1, 511, 0, 7],
-    [0, 0, 0, 0, 2, 32, 1, 36, 0, 7],
-    [4, 0, 0, 0, 2, 512, 1, 516, 0, 7],
-    [255, 0, 0, 0, 2, 32, 1, 36, 0, 7],
-    [4, 3, 3, 3, 2, 32, 1, 36, 0, 7],
-];
-
-const UNDO: [[usize; 10]; 43] = [
-    [2, 2, 1, 3, 1, 32, 32, 36, 200, 255],
-    [2, 1, 2, 255, 4, 32, 32, 36, 200, 255],
-    [2, 1, 2, 0, 4, 32, 32, 36, 3, 5],
-    [2, 1, 2, 0, 2, 32, 32, 36, 200, 255],
-    [2, 3, 0, 0, 4, 32, 32, 36, 200, 255],
-    [2, 0, 3, 0, 4, 32, 32, 36, 200, 255],
-    [2, 1, 2, 0, 1, 31, 32, 36, 200, 255],
-    [2, 1, 2, 0, 4, 32, 31, 36, 200, 255],
-    [2, 1, 2, 0, 4, 32, 33, 36, 200, 255],
-    [2, 1, 2, 0, 0, 32, 32, 36, 200, 255],
-    [2, 1, 2, 0, 5, 32, 32, 36, 200, 255],
-    [2, 1, 2, 0, 4, 32, 32, 30, 200, 255],
-    [2, 3, 0, 0, 4, 32, 31, 36, 200, 255],
-    [2, 0, 0, 0, 0, 32, 31, 36, 200, 255],
-    [2, 0, 0, 0, 5, 32, 32, 30, 3, 5],
-    [2, 1, 2, 0, 4, 32, 32, 30, 3, 5],
-    [1, 0, 3, 255, 1, 2, 2, 6, 0, 7],
-    [1, 1, 3, 255, 1, 2, 2, 6, 2, 13],
-    [1, 2, 3, 255, 2, 2, 2, 6, 9, 14],
-    [1, 2, 0, 0, 2, 2, 2, 6, 3, 12],
-    [1, 3, 0, 0, 1, 2, 2, 6, 0, 7],
-    [1, 0, 0, 0, 1, 1, 2, 6, 0, 7],
-    [1, 0, 0, 0, 1, 3, 2, 6, 0, 7],
-    [1, 0, 0, 0, 1, 2, 1, 6, 0, 7],
-    [1, 0, 0, 0, 1, 2, 3, 6, 0, 7],
-    [1, 0, 0, 0, 3, 2, 2, 6, 0, 7],
-    [1, 0, 0, 0, 1, 2, 2, 1, 0, 7],
-    [3, 0, 1, 2, 1, 512, 512, 516, 9, 4095],
-    [3, 1, 2, 0, 4, 512, 512, 516, 200, 4095],
-    [3, 2, 1, 0, 2, 512, 512, 516, 4000, 4095],
-    [3, 2, 0, 1, 2, 512, 512, 516, 4088, 4095],
-    [3, 3, 0, 0, 1, 512, 512, 516, 9, 4095],
-    [3, 0, 3, 0, 1, 512, 512, 516, 9, 4095],
-    [3, 0, 0, 3, 1, 512, 512, 516, 9, 4095],
-    [3, 0, 0, 0, 1, 511, 512, 516, 9, 4095],
-    [3, 0, 0, 0, 1, 513, 512, 516, 9, 4095],
-    [3, 0, 0, 0, 1, 512, 511, 516, 9, 4095],
-    [3, 0, 0, 0, 1, 512, 513, 516, 9, 4095],
-    [3, 0, 0, 0, 1, 512, 512, 511, 9, 4095],
-    [0, 0, 0, 0, 1, 32, 32, 36, 3, 5],
-    [4, 0, 0, 0, 1, 512, 512, 516, 3, 5],
-    [255, 0, 0, 0, 1, 32, 32, 36, 3, 5],
-    [4, 3, 3, 3, 1, 32, 32, 36, 3, 5],
-];
-
-const PART: [[usize; 10]; 28] = [
-    [2, 0, 0, 3, 2, 32, 32, 0, 0, 0],
-    [2, 0, 0, 0, 1, 32, 32, 0, 0, 0],
-    [2, 0, 0, 0, 0, 32, 32, 0, 0, 0],
-    [2, 0, 0, 0, 3, 32, 32, 0, 0, 0],
-    [2, 0, 0, 0, 1, 31, 32, 0, 0, 0],
-    [2, 0, 0, 0, 1, 32, 31, 0, 0, 0],
-    [2, 0, 0, 0, 1, 33, 32, 0, 0, 0],
-    [2, 0, 0, 0, 1, 32, 33, 0, 0, 0],
-    [1, 2, 3, 255, 1, 2, 2, 0, 0, 0],
-    [1, 2, 0, 0, 2, 2, 2, 0, 0, 0],
-    [1, 2, 0, 0, 1, 1, 2, 0, 0, 0],
-    [1, 2, 0, 0, 1, 3, 2, 0, 0, 0],
-    [1, 2, 0, 0, 1, 2, 1, 0, 0, 0],
-    [1, 2, 0, 0, 1, 2, 3, 0, 0, 0],
-    [3, 0, 1, 2, 6, 512, 512, 0, 0, 0],
-    [3, 0, 1, 2, 1, 512, 512, 0, 0, 0],
-    [3, 0, 1, 2, 1, 511, 512, 0, 0, 0],
-    [3, 0, 1, 2, 1, 513, 512, 0, 0, 0],
-    [3, 0, 1, 2, 1, 512, 511, 0, 0, 0],
-    [3, 0, 1, 2, 1, 512, 513, 0, 0, 0],
-    [0, 0, 0, 0, 1, 32, 32, 0, 0, 0],
-    [4, 0, 0, 0, 1, 512, 512, 0, 0, 0],
-    [255, 0, 0, 0, 1, 32, 32, 0, 0, 0],
-    [3, 3, 0, 0, 1, 512, 512, 0, 0, 0],
-    [3, 0, 3, 0, 1, 512, 512, 0, 0, 0],
-    [3, 0, 0, 3, 1, 512, 512, 0, 0, 0],
-    [2, 0, 3, 0, 1, 32, 32, 0, 0, 0],
-    [1, 3, 0, 0, 1, 2, 2, 0, 0, 0],
-];
+use report::rows;
 
 const TEXT: [u8; 12] = [78, 111, 115, 112, 114, 105, 100, 100, 97, 0, 255, 129];
 
@@ -137,33 +16,9 @@ const POWERS: [u8; 8] = [128, 64, 32, 16, 8, 4, 2, 1];
 
 const THIRDS: [u8; 3] = [36, 146, 73];
 
-// A number of the tables as a byte.
-fn small(x: usize) -> u8 {
-    if x < 256 { x as u8 } else { 255 }
-}
-
-fn at_most(limit: usize, n: usize) -> usize
-    ensures { λ r. ⌜ r ≤ limit ⌝ }
-{
-    if n < limit { n } else { limit }
-}
-
-// The first n bytes, or all where there are fewer.
-fn front<'a>(s: &'a [u8], n: usize) -> &'a [u8] {
-    let k = at_most(s.len(), n);
-    &s[..k]
-}
-
-fn plan_of(c: [usize; 10]) -> Plan {
-    Plan {
-        layers: small(c[0]),
-        kernels: [small(c[1]), small(c[2]), small(c[3])],
-    }
-}
-
 // Byte i of the mask of a kind: it marks 0 none, 1 all, 2 the last 8 phases, 3 the last 12, 4 all but the first 8, 5 all but the first 4,
 // 6 every third phase or so. `left` bytes come after it.
-fn mask_byte(kind: usize, i: usize, left: usize) -> u8 {
+fn mask_byte(kind: u64, i: usize, left: usize) -> u8 {
     if kind == 1 {
         return 255;
     }
@@ -186,9 +41,9 @@ fn mask_byte(kind: usize, i: usize, left: usize) -> u8 {
 }
 
 // The mask of a kind and of n bytes.
-fn mask_of(kind: usize, n: usize) -> [u8; 513] {
+fn mask_of(kind: u64, n: u64) -> [u8; 513] {
     let mut out = [0u8; 513];
-    let k = at_most(513, n);
+    let k = rows::at_most(513, n);
     let mut i: usize = 0;
     while i < k {
         out[i] = mask_byte(kind, i, k - i - 1);
@@ -209,182 +64,172 @@ fn text_of() -> [u8; 513] {
 }
 
 // Bits 1 at two places, or the text.
-fn bits_of(a: usize, b: usize) -> [u8; 513] {
+fn bits_of(a: u64, b: u64) -> [u8; 513] {
     if a == 9999 {
         return text_of();
     }
     let mut out = [0u8; 513];
-    let p = at_most(4095, a);
-    let q = at_most(4095, b);
+    let p = rows::at_most(4095, a);
+    let q = rows::at_most(4095, b);
     out[p / 8] = POWERS[p % 8];
     out[q / 8] = out[q / 8] ^ POWERS[q % 8];
     out
 }
 
+fn plan_of(m: u64, inner: u64, middle: u64, outer: u64) -> Plan {
+    Plan {
+        layers: rows::byte(m),
+        kernels: [rows::byte(inner), rows::byte(middle), rows::byte(outer)],
+    }
+}
+
+// The plan that a word to undo was made with.
+fn made_with(c: [u64; 32]) -> Plan {
+    if c[10] == 1 {
+        return plan_of(c[0], c[2], c[1], c[3]);
+    }
+    plan_of(c[0], c[1], c[2], c[3])
+}
+
 // The word of symbols that are 1 at two phases.
-fn word_of(plan: Plan, a: usize, b: usize) -> [u8; 513] {
+fn encoded(plan: Plan, symbols: [u8; 513]) -> [u8; 513] {
     let all = [255u8; 513];
-    let symbols = bits_of(a, b);
     let mut word = [0u8; 513];
-    let n = plan::bytes(plan);
-    frame::frame_encode(plan, front(&all, n), front(&symbols, n), &mut word);
+    let n = plan::bytes(plan) as u64;
+    frame::frame_encode(
+        plan,
+        rows::front(&all, n),
+        rows::front(&symbols, n),
+        &mut word,
+    );
     word
 }
 
-// The numbers of a case.
-fn say_case(label: &[u8], c: [usize; 10]) {
-    io::write_all(STDOUT_FILENO, label);
-    let mut i: usize = 0;
-    while i < 10 {
-        io::write_all(STDOUT_FILENO, b" ");
-        io::print_decimal(STDOUT_FILENO, c[i] as u64);
-        i += 1;
+fn word_of(c: [u64; 32]) -> [u8; 513] {
+    let symbols = bits_of(c[8], c[9]);
+    if c[10] == 2 {
+        return symbols;
     }
+    encoded(made_with(c), symbols)
 }
 
-// An answer, and the buffer where it is accepted, or whether it was kept.
-fn say(label: &[u8], a: Answer, buffer: &[u8]) {
-    let before = [0x5au8; 516];
-    report::say_answer(label, a);
+// An answer, and the room where it is accepted, or whether the buffer was kept.
+fn say(line: &[u8], a: Answer, buffer: [u8; 516], room: u64) {
+    report::say_answer(line, a);
     if answer::accepted(a) {
         io::write_all(STDOUT_FILENO, b", ");
-        report::say_bytes(buffer);
+        report::say_bytes(rows::front(&buffer, room));
         io::write_all(STDOUT_FILENO, b"\n");
     } else {
-        report::say_kept(report::same_from(buffer, front(&before, buffer.len()), 0));
+        let before = [0x5au8; 516];
+        report::say_kept(report::same_from(&buffer, &before, 0));
     }
 }
 
-fn encode_into(c: [usize; 10], word: &mut [u8]) {
-    let mask = mask_of(c[4], c[5]);
+fn encode_case(line: &[u8], c: [u64; 32], mask: &[u8]) {
     let payload = bits_of(c[8], c[9]);
-    let a = frame::frame_encode(plan_of(c), front(&mask, c[5]), front(&payload, c[6]), word);
-    say_case(b"encode", c);
-    say(b"", a, word);
-}
-
-fn encode_case(c: [usize; 10]) {
     let mut word = [0x5au8; 516];
-    let room = at_most(516, c[7]);
-    encode_into(c, &mut word[..room]);
+    let a = frame::frame_encode(
+        plan_of(c[0], c[1], c[2], c[3]),
+        mask,
+        rows::front(&payload, c[6]),
+        rows::room(&mut word, c[7]),
+    );
+    say(line, a, word, c[7]);
 }
 
-fn undo_into(c: [usize; 10], word: &[u8], payload: &mut [u8]) {
-    let mask = mask_of(c[4], c[5]);
-    let a = frame::frame_undo(plan_of(c), front(&mask, c[5]), front(word, c[6]), payload);
-    say_case(b"undo", c);
-    say(b"", a, payload);
-}
-
-fn undo_case(c: [usize; 10], word: [u8; 513]) {
+fn undo_case(line: &[u8], c: [u64; 32], mask: &[u8]) {
+    let word = word_of(c);
     let mut payload = [0x5au8; 516];
-    let room = at_most(516, c[7]);
-    undo_into(c, &word, &mut payload[..room]);
+    let a = frame::frame_undo(
+        plan_of(c[0], c[1], c[2], c[3]),
+        mask,
+        rows::front(&word, c[6]),
+        rows::room(&mut payload, c[7]),
+    );
+    say(line, a, payload, c[7]);
+}
+
+// A line and two numbers.
+fn say_two(line: &[u8], a: u64, b: u64) {
+    io::write_all(STDOUT_FILENO, line);
+    io::write_all(STDOUT_FILENO, b": ");
+    io::print_decimal(STDOUT_FILENO, a);
+    io::write_all(STDOUT_FILENO, b" ");
+    io::print_decimal(STDOUT_FILENO, b);
 }
 
 // The payload part: its length, twice, and its bytes.
-fn part_case(c: [usize; 10]) {
-    let mask = mask_of(c[4], c[5]);
+fn part_case(line: &[u8], c: [u64; 32], mask: &[u8]) {
     let bytes = [0xa5u8; 513];
-    let lent = front(&bytes, c[6]);
-    say_case(b"part", c);
-    io::write_all(STDOUT_FILENO, b": ");
-    io::print_decimal(
-        STDOUT_FILENO,
-        part::part_length(plan_of(c), front(&mask, c[5]), lent.len()) as u64,
-    );
-    let found = part::payload_part(plan_of(c), front(&mask, c[5]), lent);
-    io::write_all(STDOUT_FILENO, b" ");
-    io::print_decimal(STDOUT_FILENO, found.len() as u64);
+    let lent = rows::front(&bytes, c[6]);
+    let plan = plan_of(c[0], c[1], c[2], c[3]);
+    let length = part::part_length(plan, mask, lent.len());
+    let found = part::payload_part(plan, mask, lent);
+    say_two(line, length as u64, found.len() as u64);
     io::write_all(STDOUT_FILENO, b", ");
     report::say_bytes(found);
     io::write_all(STDOUT_FILENO, b"\n");
 }
 
-fn encode_cases() {
-    let mut i: usize = 0;
-    while i < 44 {
-        encode_case(ENCODE[i]);
-        i += 1;
+fn frame_case(line: &[u8], c: [u64; 32]) {
+    let mask = mask_of(c[4], c[5]);
+    let job = rows::first(line);
+    if job == b'e' {
+        encode_case(line, c, rows::front(&mask, c[5]));
+    }
+    if job == b'u' {
+        undo_case(line, c, rows::front(&mask, c[5]));
+    }
+    if job == b'p' {
+        part_case(line, c, rows::front(&mask, c[5]));
     }
 }
 
-// The last word was made with the layers exchanged.
-fn undo_cases() {
-    let mut i: usize = 0;
-    while i < 43 {
-        let c = UNDO[i];
-        undo_case(c, word_of(plan_of(c), c[8], c[9]));
-        i += 1;
-    }
-    undo_case(
-        [2, 2, 1, 0, 2, 32, 32, 36, 200, 255],
-        word_of(
-            Plan {
-                layers: 2,
-                kernels: [1, 2, 0],
-            },
-            200,
-            255,
-        ),
+// The word of some symbols and the symbols of the same word, by a kernel: frames of one layer are kernels.
+fn kernel_case(line: &[u8], c: [u64; 32]) {
+    let kernel = rows::byte(c[0]);
+    let word = (c[1] % 65536) as u16;
+    say_two(
+        line,
+        answer::word(kernel::kernel_encode(kernel, word)) as u64,
+        answer::word(kernel::kernel_undo(kernel, word)) as u64,
     );
+    io::write_all(STDOUT_FILENO, b"\n");
 }
 
-fn part_cases() {
-    let mut i: usize = 0;
-    while i < 28 {
-        part_case(PART[i]);
-        i += 1;
+fn information_case(line: &[u8], c: [u64; 32]) {
+    let mut mask = [0x5au8; 516];
+    let p = rows::at_most(9999, c[0]);
+    let a = order::information_mask(p, rows::room(&mut mask, c[1]));
+    say(line, a, mask, c[1]);
+}
+
+fn run(line: &[u8]) {
+    let c = rows::numbers(line);
+    let job = rows::first(line);
+    if job == b'k' {
+        kernel_case(line, c);
+        return;
     }
-}
-
-// Frames of one layer are kernels: the word of the symbols 4e6f and the symbols of the word 4e6f, by the kernel jobs and by frame undo.
-// Frame encode of the same symbols is among the cases.
-fn kernel_cases() {
-    let mut k: u8 = 0;
-    while k < 3 {
-        io::write_all(STDOUT_FILENO, b"kernel: ");
-        io::print_decimal(
-            STDOUT_FILENO,
-            answer::word(kernel::kernel_encode(k, 0x4e6f)) as u64,
-        );
-        io::write_all(STDOUT_FILENO, b" ");
-        io::print_decimal(
-            STDOUT_FILENO,
-            answer::word(kernel::kernel_undo(k, 0x4e6f)) as u64,
-        );
-        io::write_all(STDOUT_FILENO, b"\n");
-        undo_case([1, k as usize, 3, 255, 1, 2, 2, 6, 9999, 0], text_of());
-        k += 1;
+    if job == b'i' {
+        information_case(line, c);
+        return;
     }
+    frame_case(line, c);
 }
 
-// Information mask into a buffer.
-fn information_into(label: &[u8], p: usize, mask: &mut [u8]) {
-    let a = order::information_mask(p, mask);
-    say(label, a, mask);
-}
-
-fn information(label: &[u8], p: usize, room: usize) {
-    let mut mask = [0x5au8; 36];
-    let n = at_most(36, room);
-    information_into(label, p, &mut mask[..n]);
-}
-
-fn masks() {
-    information(b"information mask, p 1", 1, 36);
-    information(b"information mask, p 2", 2, 36);
-    information(b"information mask, p 32", 32, 36);
-    information(b"information mask, p 0", 0, 36);
-    information(b"information mask, p 33", 33, 36);
-    information(b"information mask, room 31", 1, 31);
-    information(b"information mask, 5 and 8", 33, 31);
+fn all_cases(text: &[u8]) {
+    let mut at: usize = 0;
+    while at < text.len() {
+        let end = rows::line_end(text, at);
+        run(&text[at..end]);
+        at = end + 1;
+    }
 }
 
 fn main() {
-    kernel_cases();
-    encode_cases();
-    undo_cases();
-    part_cases();
-    masks();
+    let mut text = io::large_buffer();
+    let n = io::read_full(STDIN_FILENO, &mut text);
+    all_cases(&text[..n]);
 }

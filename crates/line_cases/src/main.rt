@@ -1,6 +1,10 @@
 // What linkline prints at its edges: the paper's input, every refusal that it can meet and which of two comes first, the
-// places that are named, and k = 256. The buffer holds 5a before.
+// places that are named, and k = 256. The buffer holds 5a before. The requests are the lines of the input: how many bytes,
+// the two kernels, the byte that the mask has (256: it is that of one byte), the byte that the values have, and two bytes more,
+// each after its place.
+use libc::STDIN_FILENO;
 use libc::STDOUT_FILENO;
+use report::rows;
 
 // The information mask of one byte.
 const MASK_1: [u8; 32] = [
@@ -61,11 +65,16 @@ fn say(label: &[u8], input: &[u8]) {
     io::write_all(STDOUT_FILENO, &out[..k]);
 }
 
-// An input whose value bytes are all alike.
-fn input_of(inner: u8, outer: u8, mask: [u8; 32], byte: u8) -> [u8; 290] {
-    let mut input = [byte; 290];
-    input[0] = inner;
-    input[1] = outer;
+fn mask_of(kind: u64) -> [u8; 32] {
+    if kind == 256 {
+        return MASK_1;
+    }
+    [rows::byte(kind); 32]
+}
+
+// An input of alike value bytes with a mask.
+fn masked(byte: u8, mask: [u8; 32]) -> [u8; 291] {
+    let mut input = [byte; 291];
     let mut i: usize = 0;
     while i < 32 {
         input[2 + i] = mask[i];
@@ -74,71 +83,27 @@ fn input_of(inner: u8, outer: u8, mask: [u8; 32], byte: u8) -> [u8; 290] {
     input
 }
 
-fn accepted() {
-    let mut paper = input_of(2, 2, MASK_1, 0xff);
-    paper[34] = 1;
-    say(b"the paper's input", &paper);
-    let mut all = input_of(0, 1, [0xffu8; 32], 0xff);
-    all[34] = 1;
-    say(b"k 256", &all);
-    let mut letters = input_of(0, 0, [0xffu8; 32], 1);
-    letters[34 + 255] = 0xff;
-    say(b"k 256, all symbols 1", &letters);
-    let high = input_of(2, 2, MASK_1, 0x7f);
-    say(b"all 127", &high);
-    let mut low = input_of(2, 2, MASK_1, 0x81);
-    low[34] = 0x7f;
-    say(b"127 and all others -127", &low);
-    let mut none = input_of(2, 2, [0u8; 32], 0x81);
-    none[2] = 0xff;
-    say(b"all -127, the first 8 phases", &none);
+fn run(line: &[u8]) {
+    let c = rows::numbers(line);
+    let mut input = masked(rows::byte(c[4]), mask_of(c[3]));
+    input[0] = rows::byte(c[1]);
+    input[1] = rows::byte(c[2]);
+    input[rows::at_most(290, c[5])] = rows::byte(c[6]);
+    input[rows::at_most(290, c[7])] = rows::byte(c[8]);
+    say(line, rows::front(&input, c[0]));
 }
 
-fn lengths() {
-    let long = [2u8; 291];
-    say(b"0 bytes", &long[..0]);
-    say(b"289 bytes", &long[..289]);
-    say(b"291 bytes", &long);
-    let wrong = [3u8; 289];
-    say(b"2 and 1", &wrong);
-}
-
-fn refusals() {
-    let inner = input_of(3, 2, MASK_1, 1);
-    say(b"inner kernel 3", &inner);
-    let outer = input_of(2, 255, MASK_1, 1);
-    say(b"outer kernel 255", &outer);
-    let none = input_of(2, 2, [0u8; 32], 1);
-    say(b"k 0", &none);
-    let mut odd = input_of(2, 2, MASK_1, 1);
-    odd[2] = 1;
-    say(b"k 9", &odd);
-}
-
-fn values() {
-    let mut two = input_of(0, 1, MASK_1, 1);
-    two[34 + 9] = 0x80;
-    two[34 + 30] = 0x80;
-    say(b"-128 at 9 and 30", &two);
-    let mut last = input_of(0, 1, MASK_1, 1);
-    last[34 + 255] = 0x80;
-    say(b"-128 at 255", &last);
-    let first = input_of(0, 1, MASK_1, 0x80);
-    say(b"all -128", &first);
-}
-
-// Two conditions at once: the first in checking order counts.
-fn two_conditions() {
-    let kernel = input_of(3, 3, [0u8; 32], 1);
-    say(b"1 and 3", &kernel);
-    let mask = input_of(2, 2, [0u8; 32], 0x80);
-    say(b"3 and 6", &mask);
+fn all_cases(text: &[u8]) {
+    let mut at: usize = 0;
+    while at < text.len() {
+        let end = rows::line_end(text, at);
+        run(&text[at..end]);
+        at = end + 1;
+    }
 }
 
 fn main() {
-    accepted();
-    lengths();
-    refusals();
-    values();
-    two_conditions();
+    let mut text = io::large_buffer();
+    let n = io::read_full(STDIN_FILENO, &mut text);
+    all_cases(&text[..n]);
 }

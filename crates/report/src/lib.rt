@@ -1,4 +1,6 @@
-// What the test programs print: answers, bytes, and whether a buffer was kept.
+// What the test programs read and print: rows of cases, answers, bytes, and whether a buffer was kept.
+pub mod rows;
+
 use answer::Answer;
 use libc::STDOUT_FILENO;
 

@@ -15,32 +15,32 @@ abbrev μ-loop : tie.MeasureT-loop
 loop-holds : tie.Need-loop-holds Inv-loop μ-loop
 loop-holds c = search needs
 
-mul-bytes : tie.Need-mul-bytes Inv-loop μ-loop
-mul-bytes c = search needs
+mul-byte : tie.Need-mul-byte Inv-loop μ-loop
+mul-byte c = search needs
 
-add-bytes : tie.Need-add-bytes Inv-loop μ-loop
-add-bytes c = search needs
+add-byte : tie.Need-add-byte Inv-loop μ-loop
+add-byte c = search needs
 
-mul-bytes-2 : tie.Need-mul-bytes-2 Inv-loop μ-loop
-mul-bytes-2 c = search needs
+mul-byte-2 : tie.Need-mul-byte-2 Inv-loop μ-loop
+mul-byte-2 c = search needs
 
-array-read-bytes : tie.Need-array-read-bytes Inv-loop μ-loop
-array-read-bytes c = search needs
+array-read-byte : tie.Need-array-read-byte Inv-loop μ-loop
+array-read-byte c = search needs
 
-cast-bytes : tie.Need-cast-bytes Inv-loop μ-loop
-cast-bytes c = search needs
+byte-requires : tie.Need-byte-requires Inv-loop μ-loop
+byte-requires c κs = search needs
 
-mul-bytes-3 : tie.Need-mul-bytes-3 Inv-loop μ-loop
-mul-bytes-3 c = search needs
+mul-at-most : tie.Need-mul-at-most Inv-loop μ-loop
+mul-at-most c = search needs
 
-mul-bytes-4 : tie.Need-mul-bytes-4 Inv-loop μ-loop
-mul-bytes-4 c = search needs
+mul-at-most-2 : tie.Need-mul-at-most-2 Inv-loop μ-loop
+mul-at-most-2 c = search needs
 
-array-read-bytes-2 : tie.Need-array-read-bytes-2 Inv-loop μ-loop
-array-read-bytes-2 c = search needs
+array-read-at-most : tie.Need-array-read-at-most Inv-loop μ-loop
+array-read-at-most c = search needs
 
-cast-bytes-2 : tie.Need-cast-bytes-2 Inv-loop μ-loop
-cast-bytes-2 c = search needs
+at-most-requires : tie.Need-at-most-requires Inv-loop μ-loop
+at-most-requires c κs = search needs
 
 array-write-bytes : tie.Need-array-write-bytes Inv-loop μ-loop
 array-write-bytes c = search needs
@@ -64,15 +64,15 @@ bytes-with-spec =
     Inv-loop
     μ-loop
     loop-holds
-    mul-bytes
-    add-bytes
-    mul-bytes-2
-    array-read-bytes
-    cast-bytes
-    mul-bytes-3
-    mul-bytes-4
-    array-read-bytes-2
-    cast-bytes-2
+    mul-byte
+    add-byte
+    mul-byte-2
+    array-read-byte
+    byte-requires
+    mul-at-most
+    mul-at-most-2
+    array-read-at-most
+    at-most-requires
     array-write-bytes
     add-i
     loop-less

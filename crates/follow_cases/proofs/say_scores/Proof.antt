@@ -10,6 +10,12 @@ Inv-loop scores i₀ i = i ≤ 16
 abbrev μ-loop : tie.MeasureT-loop
 μ-loop scores i₀ i = 16 - i
 
+slice-aggregate-write-all : tie.Need-slice-aggregate-write-all Inv-loop μ-loop
+slice-aggregate-write-all c = search needs
+
+write-all-requires : tie.Need-write-all-requires Inv-loop μ-loop
+write-all-requires c κs = search needs
+
 loop-holds : tie.Need-loop-holds Inv-loop μ-loop
 loop-holds c = search needs
 
@@ -40,6 +46,8 @@ say-scores-spec =
     (tie.spec
     Inv-loop
     μ-loop
+    slice-aggregate-write-all
+    write-all-requires
     loop-holds
     mul-say-score
     array-copy-out-say-score

@@ -7,7 +7,7 @@ use Rattle.list_cases.proofs.bytes_of.Statement.{statement}
 use Rattle.list_cases.proofs.bytes_of.Tie as tie
 
 abbrev Inv-loop : tie.InvT-loop
-Inv-loop words out₀ i₀ out i = length out ≡ 32
+Inv-loop words out₀ i₀ out i = length out ≡ 33
 
 abbrev μ-loop : tie.MeasureT-loop
 μ-loop words out₀ i₀ out i = 32 - i

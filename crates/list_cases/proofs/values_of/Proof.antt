@@ -7,7 +7,7 @@ use Rattle.list_cases.proofs.values_of.Statement.{statement}
 use Rattle.list_cases.proofs.values_of.Tie as tie
 
 abbrev Inv-loop : tie.InvT-loop
-Inv-loop outside h b values₀ i₀ values i = length values ≡ 256
+Inv-loop outside h b values₀ i₀ values i = length values ≡ 257
 
 abbrev μ-loop : tie.MeasureT-loop
 μ-loop outside h b values₀ i₀ values i = 256 - i
