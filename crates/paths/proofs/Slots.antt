@@ -1,5 +1,5 @@
 -- Rows of k times four places, filled place by place: entry 4 t + j is place j of the t-th four. Assumes nothing.
-use mathlib.Core.Path.{_≡_, _∙_}
+use mathlib.Core.Path.{_≡_, refl, _∙_}
 use mathlib.Core.Bool.{Bool, true, false}
 use mathlib.Core.List.{List, [], _∷_}
 use Prim.Native.Nat.{ℕ, suc, _+_, _*_, _≤_, _<_}
@@ -79,15 +79,13 @@ turn-of-two i f (x ∷ y ∷ more) a b c d l h ea eb ec ed = record { two = h .t
     go true = twice (f true) y c d (h .row true) ec ed
 
 -- A turn of four fours in each row.
-pub turn-of-four : (i : ℕ) (f : Bool → ℕ → ℕ → ℤ) (out : List (List ℤ)) (a b c d a′ b′ c′ d′ : ℤ) → i < 4 → Rows 4 i f out
+pub turn-of-four : (i : ℕ) (f : Bool → ℕ → ℕ → ℤ) (out next : List (List ℤ)) (a b c d a′ b′ c′ d′ : ℤ) → i < 4 → Rows 4 i f out → length next ≡ 2
+    → getD next 0 [] ≡ set (set (set (set (getD out 0 []) i a) (4 + i) b) (8 + i) c) (12 + i) d
+    → getD next 1 [] ≡ set (set (set (set (getD out 1 []) i a′) (4 + i) b′) (8 + i) c′) (12 + i) d′
     → (a ≡ f false 0 i) × (b ≡ f false 1 i) × (c ≡ f false 2 i) × (d ≡ f false 3 i)
     → (a′ ≡ f true 0 i) × (b′ ≡ f true 1 i) × (c′ ≡ f true 2 i) × (d′ ≡ f true 3 i)
-    → Rows 4 (i + 1) f
-    (store (store (store (store (store (store (store (store out false i a) false (4 + i) b) false (8 + i) c) false (12 + i) d)
-    true i a′) true (4 + i) b′) true (8 + i) c′) true (12 + i) d′)
-turn-of-four i f [] a b c d a′ b′ c′ d′ l h e e′ = absurd (omega (arith, h .two))
-turn-of-four i f (x ∷ []) a b c d a′ b′ c′ d′ l h e e′ = absurd (omega (arith, h .two))
-turn-of-four i f (x ∷ y ∷ more) a b c d a′ b′ c′ d′ l h e e′ = record { two = h .two; row = go }
+    → Rows 4 (i + 1) f next
+turn-of-four i f out next a b c d a′ b′ c′ d′ l h n e₀ e₁ e e′ = record { two = n; row = go }
   where
     four : (g : ℕ → ℕ → ℤ) (row : List ℤ) (p q r s : ℤ) → Slots 4 i 0 g row → (p ≡ g 0 i) × (q ≡ g 1 i) × (r ≡ g 2 i) × (s ≡ g 3 i)
         → Slots 4 (i + 1) 0 g (set (set (set (set row i p) (4 + i) q) (8 + i) r) (12 + i) s)
@@ -102,8 +100,11 @@ turn-of-four i f (x ∷ y ∷ more) a b c d a′ b′ c′ d′ l h e e′ = rec
         (12 + i) s l (omega arith) (omega arith) (e .3))
         (omega arith)
 
-    go : (o : Bool) → Slots 4 (i + 1) 0 (f o)
-        (rowOf (store (store (store (store (store (store (store (store (x ∷ y ∷ more) false i a) false (4 + i) b) false (8 + i) c) false (12 + i) d)
-        true i a′) true (4 + i) b′) true (8 + i) c′) true (12 + i) d′) o)
-    go false = four (f false) x a b c d (h .row false) e
-    go true = four (f true) y a′ b′ c′ d′ (h .row true) e′
+    go : (o : Bool) → Slots 4 (i + 1) 0 (f o) (rowOf next o)
+    go false = rw e₀ (four (f false) (getD out 0 []) a b c d (h .row false) e)
+    go true = rw e₁ (four (f true) (getD out 1 []) a′ b′ c′ d′ (h .row true) e′)
+
+-- Four entries stored under other names.
+pub four-same : (row : List ℤ) (i : ℕ) (a b c d a′ b′ c′ d′ : ℤ) → a ≡ a′ → b ≡ b′ → c ≡ c′ → d ≡ d′
+    → set (set (set (set row i a) (4 + i) b) (8 + i) c) (12 + i) d ≡ set (set (set (set row i a′) (4 + i) b′) (8 + i) c′) (12 + i) d′
+four-same row i a b c d a′ b′ c′ d′ ea eb ec ed = rw (ea, eb, ec, ed) refl

@@ -5,7 +5,7 @@ ghost use mathlib.Core.List.{[]};
 ghost use Prim.Native.Nat.{ℕ, _+_, _*_, _/_, _%_, _<_};
 ghost use lib.Dec.{leb};
 ghost use lib.IntN.{pos, _+ℤ_, _-ℤ_};
-ghost use lib.ListN.{length, getD};
+ghost use lib.ListN.{length, getD, set};
 ghost use Rattle.base.specs.Bit.{_⊕_, digit};
 ghost use Rattle.folds.specs.Rows.{rowOf, cell};
 ghost use Rattle.values.specs.Value;
@@ -142,6 +142,34 @@ fn values11(even: &[i32; 8], odd: &[i32; 8], t: bool) -> [i32; 8]
     s
 }
 
+// Place i of the four fours of a row,
+fn put_four(row: [i32; 16], i: usize, a: i32, b: i32, c: i32, d: i32) -> [i32; 16]
+    requires { ⌜ i < 4 ⌝ }
+    ensures { λ r. ⌜ r ≡ set (set (set (set row i a) (4 + i) b) (8 + i) c) (12 + i) d ⌝ }
+{
+    let mut t = row;
+    t[i] = a;
+    t[4 + i] = b;
+    t[8 + i] = c;
+    t[12 + i] = d;
+    t
+}
+
+// and of two rows; the second has the halves exchanged.
+fn put_fours(rows: [[i32; 16]; 2], i: usize, a: i32, b: i32, c: i32, d: i32) -> [[i32; 16]; 2]
+    requires { ⌜ i < 4 ⌝ }
+    ensures two { λ r. ⌜ length r ≡ 2 ⌝ }
+    ensures first { λ r. ⌜ getD r 0 [] ≡ set (set (set (set (getD rows 0 []) i a) (4 + i) b) (8 + i) c) (12 + i) d ⌝ }
+    ensures second { λ r. ⌜ getD r 1 [] ≡ set (set (set (set (getD rows 1 []) i c) (4 + i) d) (8 + i) a) (12 + i) b ⌝ }
+{
+    let first = rows[0];
+    let second = rows[1];
+    [
+        put_four(first, i, a, b, c, d),
+        put_four(second, i, c, d, a, b),
+    ]
+}
+
 // Place i of four, under bit b of the first half's word and bit c of the word of v8 to v11: for v11 = 0, and for v11 = 1,
 // where c is the other one.
 pub fn places_after(values: &[i32], word: &[bool; 8], v3: bool, next: &[bool; 4]) -> [[i32; 16]; 2]
@@ -159,29 +187,46 @@ pub fn places_after(values: &[i32], word: &[bool; 8], v3: bool, next: &[bool; 4]
         let b = values[12 + i] - q + one;
         let c = values[12 + i] + q - zero;
         let d = values[12 + i] - q - one;
-        t[0][i] = a;
-        t[0][4 + i] = b;
-        t[0][8 + i] = c;
-        t[0][12 + i] = d;
-        t[1][i] = c;
-        t[1][4 + i] = d;
-        t[1][8 + i] = a;
-        t[1][12 + i] = b;
+        let filled = put_fours(t, i, a, b, c, d);
+        t = filled;
         i += 1;
     }
     t
+}
+
+// Place 0 of each path,
+fn place0(t: &[i32; 16]) -> [i32; 8]
+    ensures { λ r. ⌜ ((d g a : Bool) → getD r (pathNumber d g a) (pos 0) ≡ afterAt (now (t .entry)) 0 g a) ⌝ }
+{
+    [t[0], t[4], t[8], t[12], t[0], t[4], t[8], t[12]]
+}
+
+// place 1,
+fn place1(t: &[i32; 16]) -> [i32; 8]
+    ensures { λ r. ⌜ ((d g a : Bool) → getD r (pathNumber d g a) (pos 0) ≡ afterAt (now (t .entry)) 1 d (a ⊕ d)) ⌝ }
+{
+    [t[1], t[5], t[1], t[5], t[13], t[9], t[13], t[9]]
+}
+
+// place 2
+fn place2(t: &[i32; 16]) -> [i32; 8]
+    ensures { λ r. ⌜ ((d g a : Bool) → getD r (pathNumber d g a) (pos 0) ≡ afterAt (now (t .entry)) 2 (g ⊕ d) (a ⊕ g)) ⌝ }
+{
+    [t[2], t[6], t[14], t[10], t[10], t[14], t[6], t[2]]
+}
+
+// and place 3.
+fn place3(t: &[i32; 16]) -> [i32; 8]
+    ensures { λ r. ⌜ ((d g a : Bool) → getD r (pathNumber d g a) (pos 0) ≡ afterAt (now (t .entry)) 3 false ((a ⊕ d) ⊕ g)) ⌝ }
+{
+    [t[3], t[7], t[7], t[3], t[7], t[3], t[3], t[7]]
 }
 
 // The four places of each path.
 fn fours(t: &[i32; 16]) -> [[i32; 8]; 4]
     ensures { λ r. ⌜ ((d g a : Bool) → (getD (getD r 0 []) (pathNumber d g a) (pos 0) ≡ afterAt (now (t .entry)) 0 g a) × (getD (getD r 1 []) (pathNumber d g a) (pos 0) ≡ afterAt (now (t .entry)) 1 d (a ⊕ d)) × (getD (getD r 2 []) (pathNumber d g a) (pos 0) ≡ afterAt (now (t .entry)) 2 (g ⊕ d) (a ⊕ g)) × (getD (getD r 3 []) (pathNumber d g a) (pos 0) ≡ afterAt (now (t .entry)) 3 false ((a ⊕ d) ⊕ g))) ⌝ }
 {
-    [
-        [t[0], t[4], t[8], t[12], t[0], t[4], t[8], t[12]],
-        [t[1], t[5], t[1], t[5], t[13], t[9], t[13], t[9]],
-        [t[2], t[6], t[14], t[10], t[10], t[14], t[6], t[2]],
-        [t[3], t[7], t[7], t[3], t[7], t[3], t[3], t[7]],
-    ]
+    [place0(t), place1(t), place2(t), place3(t)]
 }
 
 // The values of v12.

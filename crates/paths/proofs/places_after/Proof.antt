@@ -285,95 +285,8 @@ sub-d c = less-fits (c .before .before .before)
 sub-d-2 : tie.Need-sub-d-2 Inv-loop μ-loop
 sub-d-2 c = let d = c .before .before .before in sub-fits _ _ _ _ 8388608 8388608 (less d) (one (t4 d)) (omega arith)
 
-mul-a-2 : tie.Need-mul-a-2 Inv-loop μ-loop
-mul-a-2 c = search needs
-
-index-1-a : tie.Need-index-1-a Inv-loop μ-loop
-index-1-a c = search needs
-
-index-2-a : tie.Need-index-2-a Inv-loop μ-loop
-index-2-a c = search needs
-
-add-b-3 : tie.Need-add-b-3 Inv-loop μ-loop
-add-b-3 c = search needs
-
-mul-b-2 : tie.Need-mul-b-2 Inv-loop μ-loop
-mul-b-2 c = search needs
-
-index-1-b : tie.Need-index-1-b Inv-loop μ-loop
-index-1-b c = search needs
-
-index-2-b : tie.Need-index-2-b Inv-loop μ-loop
-index-2-b c = search needs
-
-add-c-3 : tie.Need-add-c-3 Inv-loop μ-loop
-add-c-3 c = search needs
-
-mul-c-2 : tie.Need-mul-c-2 Inv-loop μ-loop
-mul-c-2 c = search needs
-
-index-1-c : tie.Need-index-1-c Inv-loop μ-loop
-index-1-c c = search needs
-
-index-2-c : tie.Need-index-2-c Inv-loop μ-loop
-index-2-c c = search needs
-
-add-d-2 : tie.Need-add-d-2 Inv-loop μ-loop
-add-d-2 c = search needs
-
-mul-d-2 : tie.Need-mul-d-2 Inv-loop μ-loop
-mul-d-2 c = search needs
-
-index-1-d : tie.Need-index-1-d Inv-loop μ-loop
-index-1-d c = search needs
-
-index-2-d : tie.Need-index-2-d Inv-loop μ-loop
-index-2-d c = search needs
-
-mul-c-3 : tie.Need-mul-c-3 Inv-loop μ-loop
-mul-c-3 c = search needs
-
-index-1-c-2 : tie.Need-index-1-c-2 Inv-loop μ-loop
-index-1-c-2 c = search needs
-
-index-2-c-2 : tie.Need-index-2-c-2 Inv-loop μ-loop
-index-2-c-2 c = search needs
-
-add-d-3 : tie.Need-add-d-3 Inv-loop μ-loop
-add-d-3 c = search needs
-
-mul-d-3 : tie.Need-mul-d-3 Inv-loop μ-loop
-mul-d-3 c = search needs
-
-index-1-d-2 : tie.Need-index-1-d-2 Inv-loop μ-loop
-index-1-d-2 c = search needs
-
-index-2-d-2 : tie.Need-index-2-d-2 Inv-loop μ-loop
-index-2-d-2 c = search needs
-
-add-a-4 : tie.Need-add-a-4 Inv-loop μ-loop
-add-a-4 c = search needs
-
-mul-a-3 : tie.Need-mul-a-3 Inv-loop μ-loop
-mul-a-3 c = search needs
-
-index-1-a-2 : tie.Need-index-1-a-2 Inv-loop μ-loop
-index-1-a-2 c = search needs
-
-index-2-a-2 : tie.Need-index-2-a-2 Inv-loop μ-loop
-index-2-a-2 c = search needs
-
-add-b-4 : tie.Need-add-b-4 Inv-loop μ-loop
-add-b-4 c = search needs
-
-mul-b-3 : tie.Need-mul-b-3 Inv-loop μ-loop
-mul-b-3 c = search needs
-
-index-1-b-2 : tie.Need-index-1-b-2 Inv-loop μ-loop
-index-1-b-2 c = search needs
-
-index-2-b-2 : tie.Need-index-2-b-2 Inv-loop μ-loop
-index-2-b-2 c = search needs
+put-fours-requires : tie.Need-put-fours-requires Inv-loop μ-loop
+put-fours-requires c κs = search needs
 
 add-i : tie.Need-add-i Inv-loop μ-loop
 add-i c = search needs
@@ -383,10 +296,11 @@ loop-less c = search needs
 
 loop-again : tie.Need-loop-again Inv-loop μ-loop
 loop-again c =
-    let s = c .before .before .before in
-    let k = at s .before .before .before .loop in (
+    let s = c .before .before .before .before in
+    let k = at s .before .before .before .loop in
+    let h = c .put-fours .ensures in (
       omega (arith, place-below (at s)),
-      turn-of-four (k .i) _ (k .t) _ _ _ _ _ _ _ _ (place-below (at s)) (k .inv .1)
+      turn-of-four (k .i) _ (k .t) _ _ _ _ _ _ _ _ _ (place-below (at s)) (k .inv .1) (h .0) (h .1 .0) (h .1 .1)
           (a-held s .is, b-held s .is, c-held s .is, d-held s .is)
           (c-held s .is, d-held s .is, a-held s .is, b-held s .is),
     )
@@ -450,36 +364,7 @@ places-after-spec =
     shared-slice-copy-out-d
     sub-d
     sub-d-2
-    mul-a-2
-    index-1-a
-    index-2-a
-    add-b-3
-    mul-b-2
-    index-1-b
-    index-2-b
-    add-c-3
-    mul-c-2
-    index-1-c
-    index-2-c
-    add-d-2
-    mul-d-2
-    index-1-d
-    index-2-d
-    mul-c-3
-    index-1-c-2
-    index-2-c-2
-    add-d-3
-    mul-d-3
-    index-1-d-2
-    index-2-d-2
-    add-a-4
-    mul-a-3
-    index-1-a-2
-    index-2-a-2
-    add-b-4
-    mul-b-3
-    index-1-b-2
-    index-2-b-2
+    put-fours-requires
     add-i
     loop-less
     loop-again
