@@ -1,10 +1,10 @@
--- `console::linkline` is safe: what is printed is the front of the buffer. Assumes nothing.
+-- `linkline::main` is safe: what is printed is the front of the buffer. Assumes nothing.
 use lib.ListN.{take, replicate}
 use Rattle.line.specs.Line.{line}
 use Rattle.line.proofs.Printed.{front-fits}
 use borrow.Author.Needs.{needs}
-use Rattle.console.proofs.linkline.Statement.{statement}
-use Rattle.console.proofs.linkline.Tie as tie
+use Rattle.linkline.proofs.main.Statement.{statement}
+use Rattle.linkline.proofs.main.Tie as tie
 
 slice-aggregate-read-full : tie.Need-slice-aggregate-read-full
 slice-aggregate-read-full c = search needs
@@ -37,8 +37,8 @@ write-all-requires c κs = search needs
 returns : tie.Need-returns
 returns c = search needs
 
-pub linkline-spec : {M : Type 1} → statement M
-linkline-spec =
+pub main-spec : {M : Type 1} → statement M
+main-spec =
     tie.close
     (tie.spec
     slice-aggregate-read-full
