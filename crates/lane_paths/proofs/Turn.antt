@@ -11,7 +11,7 @@ use Rattle.polar.specs.Fold.{freeFold, knownFold}
 use Rattle.folds.specs.Rows.{select, cell, Pays}
 use Rattle.folds.proofs.Pairs.{known-pays, free-pays, select-le}
 use Rattle.lane.specs.Lanes.{laneBits, laneBit, wordAt, nodeCosts, LanesWithin}
-use Rattle.lane_paths.specs.Places.{twoCosts}
+use Rattle.lane_paths.specs.Places.{twoCosts, Stands, AtPlace, AtFour}
 
 -- ---- the node of a place
 
@@ -47,43 +47,7 @@ pub record PaysAtMost (m : Costs) (j n x y : ℕ) : Type 0 where
   pub zero-le : x ≤ n
   pub one-le : y ≤ n
 
--- Of a node,
-node-held : (nodes : List (List (List ℕ))) (f : ℕ → Bool) (l j n x y : ℕ) → LanesWithin 4095 nodes → l < 16 → NodeOf f j n
-    → (x ≡ cell 0 (getD nodes n []) l false) × (y ≡ cell 0 (getD nodes n []) l true) → PaysAtMost (nodeCosts nodes f l) j 4095 x y
-node-held nodes f l j n x y most ll o e =
-    let same : (b : Bool) → cell 0 (getD nodes n []) l b ≡ nodeCosts nodes f l j b = λ b. ap (λ n. cell 0 (getD nodes n []) l b) (o .is) in
-    record {
-      pays = (e .0 ∙ same false, e .1 ∙ same true);
-      zero-le = omega (arith, e .0, most n (o .inside) l false ll);
-      one-le = omega (arith, e .1, most n (o .inside) l true ll);
-    }
-
-module _ {nodes : List (List (List ℕ))} {f : ℕ → Bool} {n0 n1 n2 n3 n4 n5 n6 n7 : ℕ} (o : Nodes nodes f n0 n1 n2 n3 n4 n5 n6 n7) (l : ℕ) (ll : l < 16) (x y : ℕ) where
-  pub node-0 : (x ≡ cell 0 (getD nodes n0 []) l false) × (y ≡ cell 0 (getD nodes n0 []) l true) → PaysAtMost (nodeCosts nodes f l) 0 4095 x y
-  node-0 = node-held nodes f l 0 n0 x y (o .most) ll (o .first)
-
-  pub node-1 : (x ≡ cell 0 (getD nodes n1 []) l false) × (y ≡ cell 0 (getD nodes n1 []) l true) → PaysAtMost (nodeCosts nodes f l) 1 4095 x y
-  node-1 = node-held nodes f l 1 n1 x y (o .most) ll (o .second)
-
-  pub node-2 : (x ≡ cell 0 (getD nodes n2 []) l false) × (y ≡ cell 0 (getD nodes n2 []) l true) → PaysAtMost (nodeCosts nodes f l) 2 4095 x y
-  node-2 = node-held nodes f l 2 n2 x y (o .most) ll (o .third)
-
-  pub node-3 : (x ≡ cell 0 (getD nodes n3 []) l false) × (y ≡ cell 0 (getD nodes n3 []) l true) → PaysAtMost (nodeCosts nodes f l) 3 4095 x y
-  node-3 = node-held nodes f l 3 n3 x y (o .most) ll (o .fourth)
-
-  pub node-4 : (x ≡ cell 0 (getD nodes n4 []) l false) × (y ≡ cell 0 (getD nodes n4 []) l true) → PaysAtMost (nodeCosts nodes f l) 4 4095 x y
-  node-4 = node-held nodes f l 4 n4 x y (o .most) ll (o .fifth)
-
-  pub node-5 : (x ≡ cell 0 (getD nodes n5 []) l false) × (y ≡ cell 0 (getD nodes n5 []) l true) → PaysAtMost (nodeCosts nodes f l) 5 4095 x y
-  node-5 = node-held nodes f l 5 n5 x y (o .most) ll (o .sixth)
-
-  pub node-6 : (x ≡ cell 0 (getD nodes n6 []) l false) × (y ≡ cell 0 (getD nodes n6 []) l true) → PaysAtMost (nodeCosts nodes f l) 6 4095 x y
-  node-6 = node-held nodes f l 6 n6 x y (o .most) ll (o .seventh)
-
-  pub node-7 : (x ≡ cell 0 (getD nodes n7 []) l false) × (y ≡ cell 0 (getD nodes n7 []) l true) → PaysAtMost (nodeCosts nodes f l) 7 4095 x y
-  node-7 = node-held nodes f l 7 n7 x y (o .most) ll (o .eighth)
-
--- and of two places folded onto one.
+-- Of two places folded onto one.
 module _ (h j : ℕ) (m : Costs) (n p q s t u v : ℕ) (first : PaysAtMost m j n p q) (second : PaysAtMost m (h + j) n s t) where
   pub known-held : (x : ℕ → Bool) (c : Bool) → c ≡ x j → (u ≡ select p q c + s) × (v ≡ select q p c + t) → PaysAtMost (knownFold h x m) j (n + n) u v
   known-held x c e k =
@@ -106,15 +70,62 @@ pub small : (m : Costs) (i j n p q s t : ℕ) → n ≤ 16383 → PaysAtMost m i
 small m i j n p q s t l a b =
     (omega (arith, a .zero-le), omega (arith, a .one-le), omega (arith, b .zero-le), omega (arith, b .one-le))
 
--- The bit of a lane by the lane's flag, of any plane
+-- ---- the first two folds
+
+-- A place's node stands for it.
+pub stands : (nodes : List (List (List ℕ))) (f : ℕ → Bool) (l : ℕ) {j n : ℕ} → NodeOf f j n → Stands nodes l (nodeCosts nodes f l) j n
+stands nodes f l o b = ap (λ n. cell 0 (getD nodes n []) l b) (o .is)
+
+-- What is read of nodes i and k in lane l:
+module _ (nodes : List (List (List ℕ))) (i k l p q s t : ℕ) (most : LanesWithin 4095 nodes) (li : i < 16) (lk : k < 16) (ll : l < 16)
+    (a : (p ≡ cell 0 (getD nodes i []) l false) × (q ≡ cell 0 (getD nodes i []) l true))
+    (b : (s ≡ cell 0 (getD nodes k []) l false) × (t ≡ cell 0 (getD nodes k []) l true)) where
+  -- it is small,
+  pub read-small : (p ≤ 4095) × (q ≤ 4095) × (s ≤ 4095) × (t ≤ 4095)
+  read-small = (omega (arith, a .0, most i li l false ll), omega (arith, a .1, most i li l true ll), omega (arith, b .0, most k lk l false ll), omega (arith, b .1, most k lk l true ll))
+
+  -- as the folds ask,
+  pub read-asks : (p ≤ 16383) × (q ≤ 16383) × (s ≤ 16383) × (t ≤ 16383)
+  read-asks =
+      let r = read-small in
+      (omega (arith, r .0), omega (arith, r .1), omega (arith, r .2), omega (arith, r .3))
+
+  -- and folded it is what the place pays, free
+  pub free-place : (u v : ℕ) → (u ≡ min (p + s) (q + t)) × (v ≡ min (q + s) (p + t)) → (j : ℕ) → AtPlace nodes i k l (freeFold 4) j u v
+  free-place u v e j =
+      let r = read-small in
+      record {
+        zero-le = omega (arith, e .0, r .0, r .2);
+        one-le = omega (arith, e .1, r .1, r .2);
+        pays = λ c f g. free-pays 4 j c p q s t u v (a .0 ∙ f false, a .1 ∙ f true) (b .0 ∙ g false, b .1 ∙ g true) (e .0) (e .1);
+      }
+
+  -- or known.
+  pub known-place : (u v : ℕ) (d : Bool) → (u ≡ select p q d + s) × (v ≡ select q p d + t) → (w : ℕ → Bool) (j : ℕ) → d ≡ w j → AtPlace nodes i k l (knownFold 4 w) j u v
+  known-place u v d e w j h =
+      let r = read-small in
+      record {
+        zero-le = omega (arith, e .0, select-le p q 4095 d (r .0) (r .1), r .2);
+        one-le = omega (arith, e .1, select-le q p 4095 d (r .1) (r .0), r .3);
+        pays = λ c f g. known-pays 4 j c p q s t u v (a .0 ∙ f false, a .1 ∙ f true) (b .0 ∙ g false, b .1 ∙ g true) w d h (e .0) (e .1);
+      }
+
+-- What the second fold asks of two such places,
+pub four-asks : (p q s t : ℕ) → p ≤ 8190 → q ≤ 8190 → s ≤ 8190 → t ≤ 8190 → (p ≤ 16383) × (q ≤ 16383) × (s ≤ 16383) × (t ≤ 16383)
+four-asks p q s t a b c d = (omega arith, omega arith, omega arith, omega arith)
+
+-- and what it makes of them.
+module _ (nodes : List (List (List ℕ))) (i k m n l : ℕ) (f : Costs → Costs) (j p q s t : ℕ) (a : AtPlace nodes i k l f j p q) (b : AtPlace nodes m n l f (2 + j) s t) where
+  pub four-free : (u v : ℕ) → (u ≡ min (p + s) (q + t)) × (v ≡ min (q + s) (p + t)) → AtFour nodes i k m n l (λ c. freeFold 2 (f c)) j u v
+  four-free u v e = λ c x y z w. free-pays 2 j (f c) p q s t u v (a .pays c x y) (b .pays c z w) (e .0) (e .1)
+
+  pub four-known : (u v : ℕ) (d : Bool) → (u ≡ select p q d + s) × (v ≡ select q p d + t) → (g : ℕ → Bool) → d ≡ g j → AtFour nodes i k m n l (λ c. knownFold 2 g (f c)) j u v
+  four-known u v d e g h = λ c x y z w. known-pays 2 j (f c) p q s t u v (a .pays c x y) (b .pays c z w) g d h (e .0) (e .1)
+
+-- The bit of a lane by the lane's flag.
 pub lane-bit : (flags : List ℕ) (plane l : ℕ) (r : Bool) → flags ≡ laneBits → l < 16
     → ((i : ℕ) → i < 16 → getD flags l 0 ≡ getD laneBits i 0 → r ≡ laneBit plane i) → r ≡ laneBit plane l
 lane-bit flags plane l r e ll h = h l ll (ap (λ x. getD x l 0) e)
-
--- and of plane p of some.
-pub bit-of : (flags words : List ℕ) (plane p l : ℕ) (r : Bool) → flags ≡ laneBits → plane ≡ getD words p 0 → l < 16
-    → ((i : ℕ) → i < 16 → getD flags l 0 ≡ getD laneBits i 0 → r ≡ laneBit plane i) → r ≡ wordAt words l p
-bit-of flags words plane p l r e f ll h = lane-bit flags plane l r e ll h ∙ ap (λ w. laneBit w l) f
 
 -- The first of some planes from n on.
 pub plane-first : (words : List ℕ) (n : ℕ) → getD words n 0 ≡ getD words (n + 0) 0

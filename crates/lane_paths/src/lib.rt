@@ -7,8 +7,9 @@ ghost use Rattle.base.specs.Bit.{_⊕_};
 ghost use Rattle.bits.specs.Packed.{bits};
 ghost use Rattle.polar.specs.Fold.{freeFold, knownFold, level, folded};
 ghost use Rattle.folds.specs.Rows.{cell};
+ghost use lib.ListN.{getD};
 ghost use Rattle.lane.specs.Lanes.{laneBits, laneBit, wordAt, nodeCosts, LanesWithin};
-ghost use Rattle.lane_paths.specs.Places.{twoCosts};
+ghost use Rattle.lane_paths.specs.Places.{twoCosts, AtPlace, AtFour};
 use lane::Pair;
 use lane::at;
 use lane::free;
@@ -26,6 +27,106 @@ fn node(other: u16, j: usize) -> usize
     } else {
         j
     }
+}
+
+// What two nodes pay in lane l folded onto one place, where the first half is not known
+fn free_at(nodes: &[[[u16; 16]; 2]; 16], i: usize, k: usize, l: usize) -> Pair
+    requires { ⌜ (i < 16) × (k < 16) × (l < 16) × LanesWithin 4095 (now nodes) ⌝ }
+    ensures { λ r. ⌜ ((j : ℕ) → AtPlace (now (nodes .entry)) i k l (freeFold 4) j (r .zero) (r .one)) ⌝ }
+{
+    free(at(&nodes[i], l), at(&nodes[k], l))
+}
+
+// and where it is, the plane's bit of the lane.
+fn known_at(
+    nodes: &[[[u16; 16]; 2]; 16],
+    i: usize,
+    k: usize,
+    l: usize,
+    flag: u16,
+    plane: u16,
+) -> Pair
+    requires { ⌜ (i < 16) × (k < 16) × (l < 16) × LanesWithin 4095 (now nodes) × (flag ≡ getD laneBits l 0) ⌝ }
+    ensures { λ r. ⌜ ((w : ℕ → Bool) (j : ℕ) → laneBit plane l ≡ w j → AtPlace (now (nodes .entry)) i k l (knownFold 4 w) j (r .zero) (r .one)) ⌝ }
+{
+    known(has(plane, flag), at(&nodes[i], l), at(&nodes[k], l))
+}
+
+// Four nodes folded onto one place in lane l, where no first half is known,
+fn free_free_at(
+    nodes: &[[[u16; 16]; 2]; 16],
+    i: usize,
+    k: usize,
+    m: usize,
+    n: usize,
+    l: usize,
+) -> Pair
+    requires { ⌜ (i < 16) × (k < 16) × (m < 16) × (n < 16) × (l < 16) × LanesWithin 4095 (now nodes) ⌝ }
+    ensures { λ r. ⌜ ((j : ℕ) → AtFour (now (nodes .entry)) i k m n l (λ c. freeFold 2 (freeFold 4 c)) j (r .zero) (r .one)) ⌝ }
+{
+    let p = free_at(nodes, i, k, l);
+    let q = free_at(nodes, m, n, l);
+    free(p, q)
+}
+
+// The same where that of the second fold is known,
+fn free_known_at(
+    nodes: &[[[u16; 16]; 2]; 16],
+    i: usize,
+    k: usize,
+    m: usize,
+    n: usize,
+    l: usize,
+    flag: u16,
+    x: u16,
+) -> Pair
+    requires { ⌜ (i < 16) × (k < 16) × (m < 16) × (n < 16) × (l < 16) × LanesWithin 4095 (now nodes) × (flag ≡ getD laneBits l 0) ⌝ }
+    ensures { λ r. ⌜ ((v : ℕ → Bool) (j : ℕ) → laneBit x l ≡ v j → AtFour (now (nodes .entry)) i k m n l (λ c. knownFold 2 v (freeFold 4 c)) j (r .zero) (r .one)) ⌝ }
+{
+    let p = free_at(nodes, i, k, l);
+    let q = free_at(nodes, m, n, l);
+    known(has(x, flag), p, q)
+}
+
+// The same where that of the first fold is known,
+fn known_free_at(
+    nodes: &[[[u16; 16]; 2]; 16],
+    i: usize,
+    k: usize,
+    m: usize,
+    n: usize,
+    l: usize,
+    flag: u16,
+    a: u16,
+    b: u16,
+) -> Pair
+    requires { ⌜ (i < 16) × (k < 16) × (m < 16) × (n < 16) × (l < 16) × LanesWithin 4095 (now nodes) × (flag ≡ getD laneBits l 0) ⌝ }
+    ensures { λ r. ⌜ ((w : ℕ → Bool) (j : ℕ) → laneBit a l ≡ w j → laneBit b l ≡ w (2 + j) → AtFour (now (nodes .entry)) i k m n l (λ c. freeFold 2 (knownFold 4 w c)) j (r .zero) (r .one)) ⌝ }
+{
+    let p = known_at(nodes, i, k, l, flag, a);
+    let q = known_at(nodes, m, n, l, flag, b);
+    free(p, q)
+}
+
+// The same where both are known.
+fn known_known_at(
+    nodes: &[[[u16; 16]; 2]; 16],
+    i: usize,
+    k: usize,
+    m: usize,
+    n: usize,
+    l: usize,
+    flag: u16,
+    a: u16,
+    b: u16,
+    x: u16,
+) -> Pair
+    requires { ⌜ (i < 16) × (k < 16) × (m < 16) × (n < 16) × (l < 16) × LanesWithin 4095 (now nodes) × (flag ≡ getD laneBits l 0) ⌝ }
+    ensures { λ r. ⌜ ((v w : ℕ → Bool) (j : ℕ) → laneBit x l ≡ v j → laneBit a l ≡ w j → laneBit b l ≡ w (2 + j) → AtFour (now (nodes .entry)) i k m n l (λ c. knownFold 2 v (knownFold 4 w c)) j (r .zero) (r .one)) ⌝ }
+{
+    let p = known_at(nodes, i, k, l, flag, a);
+    let q = known_at(nodes, m, n, l, flag, b);
+    known(has(x, flag), p, q)
 }
 
 // The eight places of a path folded onto two in each lane, where no first half is known,
@@ -50,14 +151,10 @@ fn free_free(
     let mut out = [[0u16; 16]; 4];
     let mut l: usize = 0;
     while l < 16 {
-        let p0 = free(at(&nodes[n0], l), at(&nodes[n4], l));
-        let p2 = free(at(&nodes[n2], l), at(&nodes[n6], l));
-        let even = free(p0, p2);
+        let even = free_free_at(nodes, n0, n4, n2, n6, l);
         out[0][l] = even.zero;
         out[1][l] = even.one;
-        let p1 = free(at(&nodes[n1], l), at(&nodes[n5], l));
-        let p3 = free(at(&nodes[n3], l), at(&nodes[n7], l));
-        let odd = free(p1, p3);
+        let odd = free_free_at(nodes, n1, n5, n3, n7, l);
         out[2][l] = odd.zero;
         out[3][l] = odd.one;
         l += 1;
@@ -90,14 +187,10 @@ fn free_known(
     let mut l: usize = 0;
     while l < 16 {
         let flag = flags[l];
-        let p0 = free(at(&nodes[n0], l), at(&nodes[n4], l));
-        let p2 = free(at(&nodes[n2], l), at(&nodes[n6], l));
-        let even = known(has(x, flag), p0, p2);
+        let even = free_known_at(nodes, n0, n4, n2, n6, l, flag, x);
         out[0][l] = even.zero;
         out[1][l] = even.one;
-        let p1 = free(at(&nodes[n1], l), at(&nodes[n5], l));
-        let p3 = free(at(&nodes[n3], l), at(&nodes[n7], l));
-        let odd = known(has(y, flag), p1, p3);
+        let odd = free_known_at(nodes, n1, n5, n3, n7, l, flag, y);
         out[2][l] = odd.zero;
         out[3][l] = odd.one;
         l += 1;
@@ -132,14 +225,10 @@ fn known_free(
     let mut l: usize = 0;
     while l < 16 {
         let flag = flags[l];
-        let p0 = known(has(w0, flag), at(&nodes[n0], l), at(&nodes[n4], l));
-        let p2 = known(has(w2, flag), at(&nodes[n2], l), at(&nodes[n6], l));
-        let even = free(p0, p2);
+        let even = known_free_at(nodes, n0, n4, n2, n6, l, flag, w0, w2);
         out[0][l] = even.zero;
         out[1][l] = even.one;
-        let p1 = known(has(w1, flag), at(&nodes[n1], l), at(&nodes[n5], l));
-        let p3 = known(has(w3, flag), at(&nodes[n3], l), at(&nodes[n7], l));
-        let odd = free(p1, p3);
+        let odd = known_free_at(nodes, n1, n5, n3, n7, l, flag, w1, w3);
         out[2][l] = odd.zero;
         out[3][l] = odd.one;
         l += 1;
@@ -176,14 +265,10 @@ fn known_known(
     let mut l: usize = 0;
     while l < 16 {
         let flag = flags[l];
-        let p0 = known(has(w0, flag), at(&nodes[n0], l), at(&nodes[n4], l));
-        let p2 = known(has(w2, flag), at(&nodes[n2], l), at(&nodes[n6], l));
-        let even = known(has(x, flag), p0, p2);
+        let even = known_known_at(nodes, n0, n4, n2, n6, l, flag, w0, w2, x);
         out[0][l] = even.zero;
         out[1][l] = even.one;
-        let p1 = known(has(w1, flag), at(&nodes[n1], l), at(&nodes[n5], l));
-        let p3 = known(has(w3, flag), at(&nodes[n3], l), at(&nodes[n7], l));
-        let odd = known(has(y, flag), p1, p3);
+        let odd = known_known_at(nodes, n1, n5, n3, n7, l, flag, w1, w3, y);
         out[2][l] = odd.zero;
         out[3][l] = odd.one;
         l += 1;

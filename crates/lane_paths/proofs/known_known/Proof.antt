@@ -1,29 +1,22 @@
--- `lane_paths::known_known` meets its contract: below lane l the rows are filled with the folded costs, with the first half known both times. Assumes nothing.
-use mathlib.Core.Path.{_≡_, refl}
-use mathlib.Core.List.{List}
+-- `lane_paths::known_known` meets its contract: below lane l the rows are filled with the folded costs, with the first halves known both times. Assumes nothing.
+use mathlib.Core.Path.{_≡_, refl, ap}
 use Prim.Native.Nat.{ℕ, _+_, _*_, _/_, _-_, _≤_}
 use native.Mathlib.Omega.{arith}
 use lib.ListN.{getD}
 use borrow.Author.Needs.{needs}
 use Rattle.base.specs.Bit.{bit}
 use Rattle.bits.specs.Packed.{bits}
-use Rattle.polar.specs.Code.{Costs}
 use Rattle.polar.specs.Fold.{knownFold}
-use Rattle.lane.specs.Lanes.{laneBits, wordAt, nodeCosts}
+use Rattle.lane.specs.Lanes.{laneBits, laneBit, wordAt, nodeCosts}
 use Rattle.lane_paths.proofs.Filling.{Filled, filled-none, fill-four}
-use Rattle.lane_paths.proofs.Turn.{Nodes, node-of, PaysAtMost, node-0, node-1, node-2, node-3, node-4, node-5, node-6, node-7, known-held, small, bit-of, plane-first}
+use Rattle.lane_paths.proofs.Turn.{Nodes, node-of, stands, plane-first}
 use Rattle.lane_paths.proofs.known_known.Statement.{statement}
 use Rattle.lane_paths.proofs.known_known.Tie as tie
-
--- The eight places after the first fold.
-abbrev costs : List (List (List ℕ)) → ℕ → List ℕ → ℕ → ℕ → Costs
-costs nodes other words high l = knownFold 4 (λ j. wordAt words l (high / 8 * 8 + j)) (nodeCosts nodes (bit (bits 16 other)) l)
 
 abbrev Inv-loop : tie.InvT-loop
 Inv-loop flags nodes other high words w0 w1 w2 w3 x y n0 n1 n2 n3 n4 n5 n6 n7 out₀ l₀ out l =
     (l ≤ 16) × Nodes nodes (bit (bits 16 other)) n0 n1 n2 n3 n4 n5 n6 n7
-    × Filled l (λ l. knownFold 2 (λ j. wordAt words l (high / 4 * 4 + j)) (costs nodes other words high l)) out
-    × (flags ≡ laneBits) × (w0 ≡ getD words (high / 8 * 8 + 0) 0) × (w1 ≡ getD words (high / 8 * 8 + 1) 0) × (w2 ≡ getD words (high / 8 * 8 + 2) 0) × (w3 ≡ getD words (high / 8 * 8 + 3) 0) × (x ≡ getD words (high / 4 * 4 + 0) 0) × (y ≡ getD words (high / 4 * 4 + 1) 0)
+    × Filled l (λ l. knownFold 2 (λ j. wordAt words l (high / 4 * 4 + j)) (knownFold 4 (λ j. wordAt words l (high / 8 * 8 + j)) (nodeCosts nodes (bit (bits 16 other)) l))) out × (flags ≡ laneBits) × (w0 ≡ getD words (high / 8 * 8 + 0) 0) × (w1 ≡ getD words (high / 8 * 8 + 1) 0) × (w2 ≡ getD words (high / 8 * 8 + 2) 0) × (w3 ≡ getD words (high / 8 * 8 + 3) 0) × (x ≡ getD words (high / 4 * 4 + 0) 0) × (y ≡ getD words (high / 4 * 4 + 1) 0)
 
 abbrev μ-loop : tie.MeasureT-loop
 μ-loop flags nodes other high words w0 w1 w2 w3 x y n0 n1 n2 n3 n4 n5 n6 n7 out₀ l₀ out l = 16 - l
@@ -149,234 +142,72 @@ mul-flag c = omega (arith, c .loop-test .taken)
 element-copy-out-flag : tie.Need-element-copy-out-flag Inv-loop μ-loop
 element-copy-out-flag c = search needs
 
-has-requires : tie.Need-has-requires Inv-loop μ-loop
-has-requires c κs = search needs
-
-mul-at : tie.Need-mul-at Inv-loop μ-loop
-mul-at c = omega (arith, c .before .before .before .loop .inv .1 .first .inside)
-
-index-1-at : tie.Need-index-1-at Inv-loop μ-loop
-index-1-at c = c .before .before .before .loop .inv .1 .first .inside
-
-at-requires : tie.Need-at-requires Inv-loop μ-loop
-at-requires c κs = c .before .before .before .loop-test .taken
-
-mul-at-2 : tie.Need-mul-at-2 Inv-loop μ-loop
-mul-at-2 c = omega (arith, c .before .before .before .before .before .loop .inv .1 .fifth .inside)
-
-index-1-at-2 : tie.Need-index-1-at-2 Inv-loop μ-loop
-index-1-at-2 c = c .before .before .before .before .before .loop .inv .1 .fifth .inside
-
-at-requires-2 : tie.Need-at-requires-2 Inv-loop μ-loop
-at-requires-2 c κs = c .before .before .before .before .before .loop-test .taken
-
--- What was read of places 0 and 4.
-read-0 : (c : tie.After-at2 Inv-loop μ-loop) → (let k = c .before .before .before .before .before .before .before in let a = k .before .before .before .before .before .before .before .before .before .before .before .before .before .before .before .args in let m = nodeCosts (a .nodes .now) (bit (bits 16 (a .other))) (k .loop .l) in
-    PaysAtMost m 0 4095 (c .before .before .at .result .zero) (c .before .before .at .result .one) × PaysAtMost m 4 4095 (c .at2 .result .zero) (c .at2 .result .one))
-read-0 c =
-    let k = c .before .before .before .before .before .before .before .loop in
-    let ll = c .before .before .before .before .before .before .loop-test .taken in
-    (node-0 (k .inv .1) (k .l) ll _ _ (c .before .before .at .ensures), node-4 (k .inv .1) (k .l) ll _ _ (c .at2 .ensures))
-
-known-requires : tie.Need-known-requires Inv-loop μ-loop
-known-requires c κs = small _ 0 4 4095 _ _ _ _ (omega arith) (read-0 c .0) (read-0 c .1)
-
--- Place 0 folded.
-place-0 : (c : tie.After-known Inv-loop μ-loop) → (let k = c .before .before .before .before .before .before .before .before in let a = k .before .before .before .before .before .before .before .before .before .before .before .before .before .before .before .args in
-    PaysAtMost (costs (a .nodes .now) (a .other) (a .words .now) (a .high) (k .loop .l)) 0 8190 (c .known .result .zero) (c .known .result .one))
-place-0 c =
-    let k = c .before .before .before .before .before .before .before .before in
-    let a = k .before .before .before .before .before .before .before .before .before .before .before .before .before .before .before .args in
-    let e = bit-of (a .flags .now) (a .words .now) _ _ (k .loop .l) _ (k .loop .inv .3) (k .loop .inv .4) (c .before .before .before .before .before .before .before .loop-test .taken) (c .before .before .before .before .before .has .ensures) in
-    known-held 4 0 _ 4095 _ _ _ _ _ _ (read-0 (c .before) .0) (read-0 (c .before) .1) (λ j. wordAt (a .words .now) (k .loop .l) (a .high / 8 * 8 + j)) _ e (c .known .ensures)
-
-has-requires-2 : tie.Need-has-requires-2 Inv-loop μ-loop
-has-requires-2 c κs = search needs
-
-mul-at-3 : tie.Need-mul-at-3 Inv-loop μ-loop
-mul-at-3 c = omega (arith, c .before .before .before .before .before .before .before .before .before .loop .inv .1 .third .inside)
-
-index-1-at-3 : tie.Need-index-1-at-3 Inv-loop μ-loop
-index-1-at-3 c = c .before .before .before .before .before .before .before .before .before .loop .inv .1 .third .inside
-
-at-requires-3 : tie.Need-at-requires-3 Inv-loop μ-loop
-at-requires-3 c κs = c .before .before .before .before .before .before .before .before .before .loop-test .taken
-
-mul-at-4 : tie.Need-mul-at-4 Inv-loop μ-loop
-mul-at-4 c = omega (arith, c .before .before .before .before .before .before .before .before .before .before .before .loop .inv .1 .seventh .inside)
-
-index-1-at-4 : tie.Need-index-1-at-4 Inv-loop μ-loop
-index-1-at-4 c = c .before .before .before .before .before .before .before .before .before .before .before .loop .inv .1 .seventh .inside
-
-at-requires-4 : tie.Need-at-requires-4 Inv-loop μ-loop
-at-requires-4 c κs = c .before .before .before .before .before .before .before .before .before .before .before .loop-test .taken
-
--- What was read of places 2 and 6.
-read-2 : (c : tie.After-at4 Inv-loop μ-loop) → (let k = c .before .before .before .before .before .before .before .before .before .before .before .before .before in let a = k .before .before .before .before .before .before .before .before .before .before .before .before .before .before .before .args in let m = nodeCosts (a .nodes .now) (bit (bits 16 (a .other))) (k .loop .l) in
-    PaysAtMost m 2 4095 (c .before .before .at3 .result .zero) (c .before .before .at3 .result .one) × PaysAtMost m 6 4095 (c .at4 .result .zero) (c .at4 .result .one))
-read-2 c =
-    let k = c .before .before .before .before .before .before .before .before .before .before .before .before .before .loop in
-    let ll = c .before .before .before .before .before .before .before .before .before .before .before .before .loop-test .taken in
-    (node-2 (k .inv .1) (k .l) ll _ _ (c .before .before .at3 .ensures), node-6 (k .inv .1) (k .l) ll _ _ (c .at4 .ensures))
-
-known-requires-2 : tie.Need-known-requires-2 Inv-loop μ-loop
-known-requires-2 c κs = small _ 2 6 4095 _ _ _ _ (omega arith) (read-2 c .0) (read-2 c .1)
-
--- Place 2 folded.
-place-2 : (c : tie.After-known2 Inv-loop μ-loop) → (let k = c .before .before .before .before .before .before .before .before .before .before .before .before .before .before in let a = k .before .before .before .before .before .before .before .before .before .before .before .before .before .before .before .args in
-    PaysAtMost (costs (a .nodes .now) (a .other) (a .words .now) (a .high) (k .loop .l)) 2 8190 (c .known2 .result .zero) (c .known2 .result .one))
-place-2 c =
-    let k = c .before .before .before .before .before .before .before .before .before .before .before .before .before .before in
-    let a = k .before .before .before .before .before .before .before .before .before .before .before .before .before .before .before .args in
-    let e = bit-of (a .flags .now) (a .words .now) _ _ (k .loop .l) _ (k .loop .inv .3) (k .loop .inv .6) (c .before .before .before .before .before .before .before .before .before .before .before .before .before .loop-test .taken) (c .before .before .before .before .before .has2 .ensures) in
-    known-held 4 2 _ 4095 _ _ _ _ _ _ (read-2 (c .before) .0) (read-2 (c .before) .1) (λ j. wordAt (a .words .now) (k .loop .l) (a .high / 8 * 8 + j)) _ e (c .known2 .ensures)
-
-has-requires-3 : tie.Need-has-requires-3 Inv-loop μ-loop
-has-requires-3 c κs = search needs
-
-known-requires-3 : tie.Need-known-requires-3 Inv-loop μ-loop
-known-requires-3 c κs = small _ 0 2 8190 _ _ _ _ (omega arith) (place-0 (c .before .before .before .before .before .before .before)) (place-2 (c .before))
+known-known-at-requires : tie.Need-known-known-at-requires Inv-loop μ-loop
+known-known-at-requires c κs =
+    let k = c .before .before .loop in
+    let o = k .inv .1 in
+    (o .first .inside, o .fifth .inside, o .third .inside, o .seventh .inside, c .before .loop-test .taken, o .most, ap (λ f. getD f (k .l) 0) (k .inv .3))
 
 mul-out : tie.Need-mul-out Inv-loop μ-loop
-mul-out c = omega (arith, c .before .before .before .before .before .before .before .before .before .before .before .before .before .before .before .loop-test .taken)
+mul-out c = omega (arith, c .before .before .loop-test .taken)
 
 index-1-out : tie.Need-index-1-out Inv-loop μ-loop
 index-1-out c = search needs
 
 index-2-out : tie.Need-index-2-out Inv-loop μ-loop
-index-2-out c = c .before .before .before .before .before .before .before .before .before .before .before .before .before .before .before .loop-test .taken
+index-2-out c = c .before .before .loop-test .taken
 
 mul-out-2 : tie.Need-mul-out-2 Inv-loop μ-loop
-mul-out-2 c = omega (arith, c .before .before .before .before .before .before .before .before .before .before .before .before .before .before .before .loop-test .taken)
+mul-out-2 c = omega (arith, c .before .before .loop-test .taken)
 
 index-1-out-2 : tie.Need-index-1-out-2 Inv-loop μ-loop
 index-1-out-2 c = search needs
 
 index-2-out-2 : tie.Need-index-2-out-2 Inv-loop μ-loop
-index-2-out-2 c = c .before .before .before .before .before .before .before .before .before .before .before .before .before .before .before .loop-test .taken
+index-2-out-2 c = c .before .before .loop-test .taken
 
-has-requires-4 : tie.Need-has-requires-4 Inv-loop μ-loop
-has-requires-4 c κs = search needs
-
-mul-at-5 : tie.Need-mul-at-5 Inv-loop μ-loop
-mul-at-5 c = omega (arith, c .before .before .before .before .before .before .before .before .before .before .before .before .before .before .before .before .before .loop .inv .1 .second .inside)
-
-index-1-at-5 : tie.Need-index-1-at-5 Inv-loop μ-loop
-index-1-at-5 c = c .before .before .before .before .before .before .before .before .before .before .before .before .before .before .before .before .before .loop .inv .1 .second .inside
-
-at-requires-5 : tie.Need-at-requires-5 Inv-loop μ-loop
-at-requires-5 c κs = c .before .before .before .before .before .before .before .before .before .before .before .before .before .before .before .before .before .loop-test .taken
-
-mul-at-6 : tie.Need-mul-at-6 Inv-loop μ-loop
-mul-at-6 c = omega (arith, c .before .before .before .before .before .before .before .before .before .before .before .before .before .before .before .before .before .before .before .loop .inv .1 .sixth .inside)
-
-index-1-at-6 : tie.Need-index-1-at-6 Inv-loop μ-loop
-index-1-at-6 c = c .before .before .before .before .before .before .before .before .before .before .before .before .before .before .before .before .before .before .before .loop .inv .1 .sixth .inside
-
-at-requires-6 : tie.Need-at-requires-6 Inv-loop μ-loop
-at-requires-6 c κs = c .before .before .before .before .before .before .before .before .before .before .before .before .before .before .before .before .before .before .before .loop-test .taken
-
--- What was read of places 1 and 5.
-read-1 : (c : tie.After-at6 Inv-loop μ-loop) → (let k = c .before .before .before .before .before .before .before .before .before .before .before .before .before .before .before .before .before .before .before .before .before in let a = k .before .before .before .before .before .before .before .before .before .before .before .before .before .before .before .args in let m = nodeCosts (a .nodes .now) (bit (bits 16 (a .other))) (k .loop .l) in
-    PaysAtMost m 1 4095 (c .before .before .at5 .result .zero) (c .before .before .at5 .result .one) × PaysAtMost m 5 4095 (c .at6 .result .zero) (c .at6 .result .one))
-read-1 c =
-    let k = c .before .before .before .before .before .before .before .before .before .before .before .before .before .before .before .before .before .before .before .before .before .loop in
-    let ll = c .before .before .before .before .before .before .before .before .before .before .before .before .before .before .before .before .before .before .before .before .loop-test .taken in
-    (node-1 (k .inv .1) (k .l) ll _ _ (c .before .before .at5 .ensures), node-5 (k .inv .1) (k .l) ll _ _ (c .at6 .ensures))
-
-known-requires-4 : tie.Need-known-requires-4 Inv-loop μ-loop
-known-requires-4 c κs = small _ 1 5 4095 _ _ _ _ (omega arith) (read-1 c .0) (read-1 c .1)
-
--- Place 1 folded.
-place-1 : (c : tie.After-known4 Inv-loop μ-loop) → (let k = c .before .before .before .before .before .before .before .before .before .before .before .before .before .before .before .before .before .before .before .before .before .before in let a = k .before .before .before .before .before .before .before .before .before .before .before .before .before .before .before .args in
-    PaysAtMost (costs (a .nodes .now) (a .other) (a .words .now) (a .high) (k .loop .l)) 1 8190 (c .known4 .result .zero) (c .known4 .result .one))
-place-1 c =
-    let k = c .before .before .before .before .before .before .before .before .before .before .before .before .before .before .before .before .before .before .before .before .before .before in
-    let a = k .before .before .before .before .before .before .before .before .before .before .before .before .before .before .before .args in
-    let e = bit-of (a .flags .now) (a .words .now) _ _ (k .loop .l) _ (k .loop .inv .3) (k .loop .inv .5) (c .before .before .before .before .before .before .before .before .before .before .before .before .before .before .before .before .before .before .before .before .before .loop-test .taken) (c .before .before .before .before .before .has4 .ensures) in
-    known-held 4 1 _ 4095 _ _ _ _ _ _ (read-1 (c .before) .0) (read-1 (c .before) .1) (λ j. wordAt (a .words .now) (k .loop .l) (a .high / 8 * 8 + j)) _ e (c .known4 .ensures)
-
-has-requires-5 : tie.Need-has-requires-5 Inv-loop μ-loop
-has-requires-5 c κs = search needs
-
-mul-at-7 : tie.Need-mul-at-7 Inv-loop μ-loop
-mul-at-7 c = omega (arith, c .before .before .before .before .before .before .before .before .before .before .before .before .before .before .before .before .before .before .before .before .before .before .before .loop .inv .1 .fourth .inside)
-
-index-1-at-7 : tie.Need-index-1-at-7 Inv-loop μ-loop
-index-1-at-7 c = c .before .before .before .before .before .before .before .before .before .before .before .before .before .before .before .before .before .before .before .before .before .before .before .loop .inv .1 .fourth .inside
-
-at-requires-7 : tie.Need-at-requires-7 Inv-loop μ-loop
-at-requires-7 c κs = c .before .before .before .before .before .before .before .before .before .before .before .before .before .before .before .before .before .before .before .before .before .before .before .loop-test .taken
-
-mul-at-8 : tie.Need-mul-at-8 Inv-loop μ-loop
-mul-at-8 c = omega (arith, c .before .before .before .before .before .before .before .before .before .before .before .before .before .before .before .before .before .before .before .before .before .before .before .before .before .loop .inv .1 .eighth .inside)
-
-index-1-at-8 : tie.Need-index-1-at-8 Inv-loop μ-loop
-index-1-at-8 c = c .before .before .before .before .before .before .before .before .before .before .before .before .before .before .before .before .before .before .before .before .before .before .before .before .before .loop .inv .1 .eighth .inside
-
-at-requires-8 : tie.Need-at-requires-8 Inv-loop μ-loop
-at-requires-8 c κs = c .before .before .before .before .before .before .before .before .before .before .before .before .before .before .before .before .before .before .before .before .before .before .before .before .before .loop-test .taken
-
--- What was read of places 3 and 7.
-read-3 : (c : tie.After-at8 Inv-loop μ-loop) → (let k = c .before .before .before .before .before .before .before .before .before .before .before .before .before .before .before .before .before .before .before .before .before .before .before .before .before .before .before in let a = k .before .before .before .before .before .before .before .before .before .before .before .before .before .before .before .args in let m = nodeCosts (a .nodes .now) (bit (bits 16 (a .other))) (k .loop .l) in
-    PaysAtMost m 3 4095 (c .before .before .at7 .result .zero) (c .before .before .at7 .result .one) × PaysAtMost m 7 4095 (c .at8 .result .zero) (c .at8 .result .one))
-read-3 c =
-    let k = c .before .before .before .before .before .before .before .before .before .before .before .before .before .before .before .before .before .before .before .before .before .before .before .before .before .before .before .loop in
-    let ll = c .before .before .before .before .before .before .before .before .before .before .before .before .before .before .before .before .before .before .before .before .before .before .before .before .before .before .loop-test .taken in
-    (node-3 (k .inv .1) (k .l) ll _ _ (c .before .before .at7 .ensures), node-7 (k .inv .1) (k .l) ll _ _ (c .at8 .ensures))
-
-known-requires-5 : tie.Need-known-requires-5 Inv-loop μ-loop
-known-requires-5 c κs = small _ 3 7 4095 _ _ _ _ (omega arith) (read-3 c .0) (read-3 c .1)
-
--- Place 3 folded.
-place-3 : (c : tie.After-known5 Inv-loop μ-loop) → (let k = c .before .before .before .before .before .before .before .before .before .before .before .before .before .before .before .before .before .before .before .before .before .before .before .before .before .before .before .before in let a = k .before .before .before .before .before .before .before .before .before .before .before .before .before .before .before .args in
-    PaysAtMost (costs (a .nodes .now) (a .other) (a .words .now) (a .high) (k .loop .l)) 3 8190 (c .known5 .result .zero) (c .known5 .result .one))
-place-3 c =
-    let k = c .before .before .before .before .before .before .before .before .before .before .before .before .before .before .before .before .before .before .before .before .before .before .before .before .before .before .before .before in
-    let a = k .before .before .before .before .before .before .before .before .before .before .before .before .before .before .before .args in
-    let e = bit-of (a .flags .now) (a .words .now) _ _ (k .loop .l) _ (k .loop .inv .3) (k .loop .inv .7) (c .before .before .before .before .before .before .before .before .before .before .before .before .before .before .before .before .before .before .before .before .before .before .before .before .before .before .before .loop-test .taken) (c .before .before .before .before .before .has5 .ensures) in
-    known-held 4 3 _ 4095 _ _ _ _ _ _ (read-3 (c .before) .0) (read-3 (c .before) .1) (λ j. wordAt (a .words .now) (k .loop .l) (a .high / 8 * 8 + j)) _ e (c .known5 .ensures)
-
-has-requires-6 : tie.Need-has-requires-6 Inv-loop μ-loop
-has-requires-6 c κs = search needs
-
-known-requires-6 : tie.Need-known-requires-6 Inv-loop μ-loop
-known-requires-6 c κs = small _ 1 3 8190 _ _ _ _ (omega arith) (place-1 (c .before .before .before .before .before .before .before)) (place-3 (c .before))
+known-known-at-requires-2 : tie.Need-known-known-at-requires-2 Inv-loop μ-loop
+known-known-at-requires-2 c κs =
+    let k = c .before .before .before .loop in
+    let o = k .inv .1 in
+    (o .second .inside, o .sixth .inside, o .fourth .inside, o .eighth .inside, c .before .before .loop-test .taken, o .most, ap (λ f. getD f (k .l) 0) (k .inv .3))
 
 mul-out-3 : tie.Need-mul-out-3 Inv-loop μ-loop
-mul-out-3 c = omega (arith, c .before .before .before .before .before .before .before .before .before .before .before .before .before .before .before .before .before .before .before .before .before .before .before .before .before .before .before .before .before .loop-test .taken)
+mul-out-3 c = omega (arith, c .before .before .before .loop-test .taken)
 
 index-1-out-3 : tie.Need-index-1-out-3 Inv-loop μ-loop
 index-1-out-3 c = search needs
 
 index-2-out-3 : tie.Need-index-2-out-3 Inv-loop μ-loop
-index-2-out-3 c = c .before .before .before .before .before .before .before .before .before .before .before .before .before .before .before .before .before .before .before .before .before .before .before .before .before .before .before .before .before .loop-test .taken
+index-2-out-3 c = c .before .before .before .loop-test .taken
 
 mul-out-4 : tie.Need-mul-out-4 Inv-loop μ-loop
-mul-out-4 c = omega (arith, c .before .before .before .before .before .before .before .before .before .before .before .before .before .before .before .before .before .before .before .before .before .before .before .before .before .before .before .before .before .loop-test .taken)
+mul-out-4 c = omega (arith, c .before .before .before .loop-test .taken)
 
 index-1-out-4 : tie.Need-index-1-out-4 Inv-loop μ-loop
 index-1-out-4 c = search needs
 
 index-2-out-4 : tie.Need-index-2-out-4 Inv-loop μ-loop
-index-2-out-4 c = c .before .before .before .before .before .before .before .before .before .before .before .before .before .before .before .before .before .before .before .before .before .before .before .before .before .before .before .before .before .loop-test .taken
+index-2-out-4 c = c .before .before .before .loop-test .taken
 
 add-l : tie.Need-add-l Inv-loop μ-loop
-add-l c = search (needs, c .before .before .before .before .before .before .before .before .before .before .before .before .before .before .before .before .before .before .before .before .before .before .before .before .before .before .before .before .before .loop-test .taken)
+add-l c = search (needs, c .before .before .before .loop-test .taken)
 
 loop-less : tie.Need-loop-less Inv-loop μ-loop
-loop-less c = search (needs, c .before .before .before .before .before .before .before .before .before .before .before .before .before .before .before .before .before .before .before .before .before .before .before .before .before .before .before .before .before .loop-test .taken)
+loop-less c = search (needs, c .before .before .before .loop-test .taken)
 
 loop-again : tie.Need-loop-again Inv-loop μ-loop
 loop-again c =
-    let k = c .before .before .before .before .before .before .before .before .before .before .before .before .before .before .before .before .before .before .before .before .before .before .before .before .before .before .before .before .before .before in
-    let ll = c .before .before .before .before .before .before .before .before .before .before .before .before .before .before .before .before .before .before .before .before .before .before .before .before .before .before .before .before .before .loop-test .taken in
+    let k = c .before .before .before .before in
+    let ll = c .before .before .before .loop-test .taken in
     let a = k .before .before .before .before .before .before .before .before .before .before .before .before .before .before .before .args in
-    let even-bit = bit-of (a .flags .now) (a .words .now) _ _ (k .loop .l) _ (k .loop .inv .3) (k .loop .inv .8) ll (c .before .before .before .before .before .before .before .before .before .before .before .before .before .before .before .has3 .ensures) in
-    let even = known-held 2 0 _ 8190 _ _ _ _ _ _ (place-0 (c .before .before .before .before .before .before .before .before .before .before .before .before .before .before .before .before .before .before .before .before .before .before)) (place-2 (c .before .before .before .before .before .before .before .before .before .before .before .before .before .before .before .before)) (λ j. wordAt (a .words .now) (k .loop .l) (a .high / 4 * 4 + j)) _ even-bit (c .before .before .before .before .before .before .before .before .before .before .before .before .before .before .known3 .ensures) in
-    let odd-bit = bit-of (a .flags .now) (a .words .now) _ _ (k .loop .l) _ (k .loop .inv .3) (k .loop .inv .9) ll (c .before .has6 .ensures) in
-    let odd = known-held 2 1 _ 8190 _ _ _ _ _ _ (place-1 (c .before .before .before .before .before .before .before .before)) (place-3 (c .before .before)) (λ j. wordAt (a .words .now) (k .loop .l) (a .high / 4 * 4 + j)) _ odd-bit (c .known6 .ensures) in
-    (search (needs, ll), k .loop .inv .1, fill-four (k .loop .l) _ (k .loop .out) (k .loop .inv .2) _ _ _ _ ll (even .pays) (odd .pays), k .loop .inv .3, k .loop .inv .4, k .loop .inv .5, k .loop .inv .6, k .loop .inv .7, k .loop .inv .8, k .loop .inv .9)
+    let o = k .loop .inv .1 in
+    let l = k .loop .l in
+    let f = bit (bits 16 (a .other)) in
+    let m = nodeCosts (a .nodes .now) f l in
+    let even = c .before .known-known-at .ensures (λ j. wordAt (a .words .now) l (a .high / 4 * 4 + j)) (λ j. wordAt (a .words .now) l (a .high / 8 * 8 + j)) 0 (ap (λ w. laneBit w l) (k .loop .inv .8)) (ap (λ w. laneBit w l) (k .loop .inv .4)) (ap (λ w. laneBit w l) (k .loop .inv .6)) m (stands (a .nodes .now) f l (o .first)) (stands (a .nodes .now) f l (o .fifth)) (stands (a .nodes .now) f l (o .third)) (stands (a .nodes .now) f l (o .seventh)) in
+    let odd = c .known-known-at2 .ensures (λ j. wordAt (a .words .now) l (a .high / 4 * 4 + j)) (λ j. wordAt (a .words .now) l (a .high / 8 * 8 + j)) 1 (ap (λ w. laneBit w l) (k .loop .inv .9)) (ap (λ w. laneBit w l) (k .loop .inv .5)) (ap (λ w. laneBit w l) (k .loop .inv .7)) m (stands (a .nodes .now) f l (o .second)) (stands (a .nodes .now) f l (o .sixth)) (stands (a .nodes .now) f l (o .fourth)) (stands (a .nodes .now) f l (o .eighth)) in
+    (search (needs, ll), o, fill-four l _ (k .loop .out) (k .loop .inv .2) _ _ _ _ ll even odd, k .loop .inv .3, k .loop .inv .4, k .loop .inv .5, k .loop .inv .6, k .loop .inv .7, k .loop .inv .8, k .loop .inv .9)
 
 returns : tie.Need-returns Inv-loop μ-loop
 returns c =
@@ -423,48 +254,14 @@ known-known-spec =
     loop-holds
     mul-flag
     element-copy-out-flag
-    has-requires
-    mul-at
-    index-1-at
-    at-requires
-    mul-at-2
-    index-1-at-2
-    at-requires-2
-    known-requires
-    has-requires-2
-    mul-at-3
-    index-1-at-3
-    at-requires-3
-    mul-at-4
-    index-1-at-4
-    at-requires-4
-    known-requires-2
-    has-requires-3
-    known-requires-3
+    known-known-at-requires
     mul-out
     index-1-out
     index-2-out
     mul-out-2
     index-1-out-2
     index-2-out-2
-    has-requires-4
-    mul-at-5
-    index-1-at-5
-    at-requires-5
-    mul-at-6
-    index-1-at-6
-    at-requires-6
-    known-requires-4
-    has-requires-5
-    mul-at-7
-    index-1-at-7
-    at-requires-7
-    mul-at-8
-    index-1-at-8
-    at-requires-8
-    known-requires-5
-    has-requires-6
-    known-requires-6
+    known-known-at-requires-2
     mul-out-3
     index-1-out-3
     index-2-out-3
