@@ -127,10 +127,6 @@ pub lane-bit : (flags : List ℕ) (plane l : ℕ) (r : Bool) → flags ≡ laneB
     → ((i : ℕ) → i < 16 → getD flags l 0 ≡ getD laneBits i 0 → r ≡ laneBit plane i) → r ≡ laneBit plane l
 lane-bit flags plane l r e ll h = h l ll (ap (λ x. getD x l 0) e)
 
--- The first of some planes from n on.
-pub plane-first : (words : List ℕ) (n : ℕ) → getD words n 0 ≡ getD words (n + 0) 0
-plane-first words n = ap (λ i. getD words i 0) (omega arith)
-
 -- ---- the last fold
 
 -- What the two places that are left pay,

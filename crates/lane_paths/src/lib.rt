@@ -29,6 +29,22 @@ fn node(other: u16, j: usize) -> usize
     }
 }
 
+// Plane j of those from the last multiple of eight on,
+fn of_eight(words: &[u16; 16], high: usize, j: usize) -> u16
+    requires { ⌜ (high < 16) × (j < 8) ⌝ }
+    ensures { λ r. ⌜ r ≡ getD (now (words .entry)) (high / 8 * 8 + j) 0 ⌝ }
+{
+    words[high / 8 * 8 + j]
+}
+
+// and of those from the last multiple of four on.
+fn of_four(words: &[u16; 16], high: usize, j: usize) -> u16
+    requires { ⌜ (high < 16) × (j < 4) ⌝ }
+    ensures { λ r. ⌜ r ≡ getD (now (words .entry)) (high / 4 * 4 + j) 0 ⌝ }
+{
+    words[high / 4 * 4 + j]
+}
+
 // What two nodes pay in lane l folded onto one place, where the first half is not known
 fn free_at(nodes: &[[[u16; 16]; 2]; 16], i: usize, k: usize, l: usize) -> Pair
     requires { ⌜ (i < 16) × (k < 16) × (l < 16) × LanesWithin 4095 (now nodes) ⌝ }
@@ -173,8 +189,8 @@ fn free_known(
     requires { ⌜ (now flags ≡ laneBits) × (high < 16) × LanesWithin 4095 (now nodes) ⌝ }
     ensures { λ r. ⌜ ((i l : ℕ) (b : Bool) → i < 2 → l < 16 → twoCosts r l i b ≡ knownFold 2 (λ j. wordAt (now (words .entry)) l (high / 4 * 4 + j)) (freeFold 4 (nodeCosts (now (nodes .entry)) (Bit.bit (bits 16 other)) l)) i b) ⌝ }
 {
-    let x = words[high / 4 * 4];
-    let y = words[high / 4 * 4 + 1];
+    let x = of_four(words, high, 0);
+    let y = of_four(words, high, 1);
     let n0 = node(other, 0);
     let n1 = node(other, 1);
     let n2 = node(other, 2);
@@ -209,10 +225,10 @@ fn known_free(
     requires { ⌜ (now flags ≡ laneBits) × (high < 16) × LanesWithin 4095 (now nodes) ⌝ }
     ensures { λ r. ⌜ ((i l : ℕ) (b : Bool) → i < 2 → l < 16 → twoCosts r l i b ≡ freeFold 2 (knownFold 4 (λ j. wordAt (now (words .entry)) l (high / 8 * 8 + j)) (nodeCosts (now (nodes .entry)) (Bit.bit (bits 16 other)) l)) i b) ⌝ }
 {
-    let w0 = words[high / 8 * 8];
-    let w1 = words[high / 8 * 8 + 1];
-    let w2 = words[high / 8 * 8 + 2];
-    let w3 = words[high / 8 * 8 + 3];
+    let w0 = of_eight(words, high, 0);
+    let w1 = of_eight(words, high, 1);
+    let w2 = of_eight(words, high, 2);
+    let w3 = of_eight(words, high, 3);
     let n0 = node(other, 0);
     let n1 = node(other, 1);
     let n2 = node(other, 2);
@@ -247,12 +263,12 @@ fn known_known(
     requires { ⌜ (now flags ≡ laneBits) × (high < 16) × LanesWithin 4095 (now nodes) ⌝ }
     ensures { λ r. ⌜ ((i l : ℕ) (b : Bool) → i < 2 → l < 16 → twoCosts r l i b ≡ knownFold 2 (λ j. wordAt (now (words .entry)) l (high / 4 * 4 + j)) (knownFold 4 (λ j. wordAt (now (words .entry)) l (high / 8 * 8 + j)) (nodeCosts (now (nodes .entry)) (Bit.bit (bits 16 other)) l)) i b) ⌝ }
 {
-    let w0 = words[high / 8 * 8];
-    let w1 = words[high / 8 * 8 + 1];
-    let w2 = words[high / 8 * 8 + 2];
-    let w3 = words[high / 8 * 8 + 3];
-    let x = words[high / 4 * 4];
-    let y = words[high / 4 * 4 + 1];
+    let w0 = of_eight(words, high, 0);
+    let w1 = of_eight(words, high, 1);
+    let w2 = of_eight(words, high, 2);
+    let w3 = of_eight(words, high, 3);
+    let x = of_four(words, high, 0);
+    let y = of_four(words, high, 1);
     let n0 = node(other, 0);
     let n1 = node(other, 1);
     let n2 = node(other, 2);

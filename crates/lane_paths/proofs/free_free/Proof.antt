@@ -44,22 +44,21 @@ node-requires-8 : tie.Need-node-requires-8 Inv-loop μ-loop
 node-requires-8 c κs = search needs
 
 loop-holds : tie.Need-loop-holds Inv-loop μ-loop
-loop-holds c =
-    let a = c .before .before .before .before .before .before .before .before .args in (
-      search needs,
-      record {
-        most = c .before .before .before .before .before .before .before .before .pre .2;
-        first = node-of _ 0 _ (omega arith) (c .before .before .before .before .before .before .before .node .ensures);
-        second = node-of _ 1 _ (omega arith) (c .before .before .before .before .before .before .node2 .ensures);
-        third = node-of _ 2 _ (omega arith) (c .before .before .before .before .before .node3 .ensures);
-        fourth = node-of _ 3 _ (omega arith) (c .before .before .before .before .node4 .ensures);
-        fifth = node-of _ 4 _ (omega arith) (c .before .before .before .node5 .ensures);
-        sixth = node-of _ 5 _ (omega arith) (c .before .before .node6 .ensures);
-        seventh = node-of _ 6 _ (omega arith) (c .before .node7 .ensures);
-        eighth = node-of _ 7 _ (omega arith) (c .node8 .ensures);
-      },
-      filled-none _,
-    )
+loop-holds c = (
+  search needs,
+  record {
+    most = c .before .before .before .before .before .before .before .before .pre .2;
+    first = node-of _ 0 _ (omega arith) (c .before .before .before .before .before .before .before .node .ensures);
+    second = node-of _ 1 _ (omega arith) (c .before .before .before .before .before .before .node2 .ensures);
+    third = node-of _ 2 _ (omega arith) (c .before .before .before .before .before .node3 .ensures);
+    fourth = node-of _ 3 _ (omega arith) (c .before .before .before .before .node4 .ensures);
+    fifth = node-of _ 4 _ (omega arith) (c .before .before .before .node5 .ensures);
+    sixth = node-of _ 5 _ (omega arith) (c .before .before .node6 .ensures);
+    seventh = node-of _ 6 _ (omega arith) (c .before .node7 .ensures);
+    eighth = node-of _ 7 _ (omega arith) (c .node8 .ensures);
+  },
+  filled-none _,
+)
 
 free-free-at-requires : tie.Need-free-free-at-requires Inv-loop μ-loop
 free-free-at-requires c κs =
