@@ -11,9 +11,10 @@ ghost use Rattle.bits.specs.Packed.{bits};
 ghost use Rattle.polar.specs.Code.{channel, score};
 ghost use Rattle.folds.specs.Range.{valueLimit, firstOutside};
 ghost use Rattle.kernel.specs.Kernels.{kernelCode};
-ghost use Rattle.values.specs.Value.{freeValue, knownValue, gain, Small};
+ghost use Rattle.folds.specs.Rows.{rowOf};
+ghost use Rattle.values.specs.Value.{freeValue, knownValue, gain, greater, Small};
 ghost use Rattle.values.specs.Arikan.{arikanWord, arikanScore, bestV};
-ghost use Rattle.values.specs.Path.{placeAt, entry, RowOf};
+ghost use Rattle.values.specs.Path.{placeAt, afterAt, entry, RowOf};
 ghost use Rattle.run.specs.Run.{symbolBy};
 ghost use Rattle.quarters.specs.Part.{Follows};
 use quarters::Four;
@@ -27,24 +28,42 @@ fn begin1(eighths: &[i32; 8], values: &[i32], free: u16, given: u16) -> Four
     let run = quarters::run_four(&value_folds::free_quarter(eighths), free, given, 0);
     let scores = run.scores;
     let v = run.symbols;
-    let zero = fourth1(eighths, &scores, &[v[0], v[1], v[2], false]);
-    let one = fourth1(eighths, &scores, &[v[0], v[1], v[2], true]);
-    let score = value_folds::greater(zero[0], one[0]) - value_folds::greater(zero[1], one[1]);
+    let zero = fourth1(eighths, &scores, &v, false);
+    let one = fourth1(eighths, &scores, &v, true);
+    let score = lead1(zero, one);
     let v4 = run::symbol_of(free, given, 3, score);
+    begun1(scores, v, score, v4)
+}
+
+// The score of v4 with v3 free, from the best scores with v3 = 0 and with v3 = 1.
+fn lead1(zero: [i32; 2], one: [i32; 2]) -> i32
+    requires { ⌜ Small 16777216 2 zero × Small 16777216 2 one ⌝ }
+    ensures { λ r. ⌜ r ≡ greater (getD zero 0 (pos 0)) (getD one 0 (pos 0)) -ℤ greater (getD zero 1 (pos 0)) (getD one 1 (pos 0)) ⌝ }
+{
+    value_folds::greater(zero[0], one[0]) - value_folds::greater(zero[1], one[1])
+}
+
+// The first three of four phases, and one after them.
+fn begun1(scores: [i32; 4], symbols: [bool; 4], score: i32, symbol: bool) -> Four
+    ensures { λ r. ⌜ ((sc : List Bool → ℤ) (f g : ℕ → Bool) → Follows sc f g 3 scores symbols → score ≡ sc (bit symbols 0 ∷ bit symbols 1 ∷ bit symbols 2 ∷ []) → symbol ≡ symbolBy (f 3) (g 3) score → Follows sc f g 4 (r .scores) (r .symbols)) ⌝ }
+{
     Four {
         scores: [scores[0], scores[1], scores[2], score],
-        symbols: [v[0], v[1], v[2], v4],
+        symbols: [symbols[0], symbols[1], symbols[2], symbol],
     }
 }
 
-// The best scores of the path with this v3 and v4 = 0, and with v4 = 1, from the values of v0 to v3 in turn.
-fn fourth1(eighths: &[i32; 8], scores: &[i32; 4], v: &[bool; 4]) -> [i32; 2]
+// The best scores of the path with this v3 and v4 = 0, and with v4 = 1, from the values of v0 to v3 in turn; v has the first three.
+fn fourth1(eighths: &[i32; 8], scores: &[i32; 4], v: &[bool; 4], v3: bool) -> [i32; 2]
     requires { ⌜ Small 1048576 8 (now eighths) × Small 4194304 4 (now scores) ⌝ }
-    ensures { λ r. ⌜ ((b : Bool) → getD r (digit b) (pos 0) ≡ gain (getD (now (scores .entry)) 0 (pos 0)) (getD (now (v .entry)) 0 false) +ℤ gain (getD (now (scores .entry)) 1 (pos 0)) (getD (now (v .entry)) 1 false) +ℤ gain (getD (now (scores .entry)) 2 (pos 0)) (getD (now (v .entry)) 2 false) +ℤ gain (getD (now (scores .entry)) 3 (pos 0)) (getD (now (v .entry)) 3 false) +ℤ gain (arikanScore 3 (λ i. getD (now (eighths .entry)) i (pos 0)) (getD (now (v .entry)) 0 false ∷ getD (now (v .entry)) 1 false ∷ getD (now (v .entry)) 2 false ∷ getD (now (v .entry)) 3 false ∷ [])) b) ⌝ }
+    ensures { λ r. ⌜ ((b : Bool) → getD r (digit b) (pos 0) ≡ gain (getD (now (scores .entry)) 0 (pos 0)) (getD (now (v .entry)) 0 false) +ℤ gain (getD (now (scores .entry)) 1 (pos 0)) (getD (now (v .entry)) 1 false) +ℤ gain (getD (now (scores .entry)) 2 (pos 0)) (getD (now (v .entry)) 2 false) +ℤ gain (getD (now (scores .entry)) 3 (pos 0)) (v3) +ℤ gain (arikanScore 3 (λ i. getD (now (eighths .entry)) i (pos 0)) (getD (now (v .entry)) 0 false ∷ getD (now (v .entry)) 1 false ∷ getD (now (v .entry)) 2 false ∷ v3 ∷ [])) b) ⌝ }
 {
-    let word = quarters::word_of_four(v[0], v[1], v[2], v[3]);
+    let a = v[0];
+    let b = v[1];
+    let c = v[2];
+    let word = quarters::word_of_four(a, b, c, v3);
     let value = quarters::four_free(&value_folds::known_quarter(eighths, &word));
-    let zero = quarters::gained(scores, v) + value_folds::below(value);
+    let zero = quarters::gained(scores, &[a, b, c, v3]) + value_folds::below(value);
     [zero, zero - value]
 }
 
@@ -101,6 +120,22 @@ pub struct Widened {
     pub one: [i32; 8],
 }
 
+// The places of the paths of this v3 after v11, for v11 = 0 and for v11 = 1.
+fn opened_places(values: &[i32], v: &[bool; 4], v3: bool, opened: &[bool; 3]) -> [[i32; 16]; 2]
+    requires { ⌜ (length (now values) ≡ 16) × (firstOutside valueLimit (now values) ≡ 16) ⌝ }
+    ensures { λ r. ⌜ ((q c b : Bool) (i : ℕ) → i < 4 → afterAt (rowOf r q) i c b ≡ knownValue (bit (((getD (now (opened .entry)) 0 false ⊕ getD (now (opened .entry)) 1 false) ⊕ getD (now (opened .entry)) 2 false) ∷ getD (now (opened .entry)) 1 false ∷ getD (now (opened .entry)) 2 false ∷ false ∷ []) i ⊕ (c ⊕ q)) (knownValue (arikanWord 3 (getD (now (v .entry)) 0 false ∷ getD (now (v .entry)) 1 false ∷ getD (now (v .entry)) 2 false ∷ false ∷ getD (now (v .entry)) 3 false ∷ false ∷ false ∷ false ∷ []) i ⊕ b) (getD (now (values .entry)) i (pos 0)) (getD (now (values .entry)) (8 + i) (pos 0))) (knownValue (arikanWord 3 (getD (now (v .entry)) 0 false ∷ getD (now (v .entry)) 1 false ∷ getD (now (v .entry)) 2 false ∷ false ∷ getD (now (v .entry)) 3 false ∷ false ∷ false ∷ false ∷ []) (4 + i) ⊕ (b ⊕ v3)) (getD (now (values .entry)) (4 + i) (pos 0)) (getD (now (values .entry)) (12 + i) (pos 0)))) ⌝ }
+{
+    let low = quarters::word_of_four(v[0], v[1], v[2], false);
+    let high = quarters::word_of_four(v[3], false, false, false);
+    let next = [
+        (opened[0] != opened[1]) != opened[2],
+        opened[1],
+        opened[2],
+        false,
+    ];
+    paths::places_after(values, &quarters::word_of_eight(&low, &high), v3, &next)
+}
+
 // Kernel 1, phase 8: v12, with v11 free as well.
 fn widened1(
     values: &[i32],
@@ -125,15 +160,7 @@ fn widened1(
         opened[1],
         opened[2],
     );
-    let low = quarters::word_of_four(v[0], v[1], v[2], false);
-    let high = quarters::word_of_four(v[3], false, false, false);
-    let next = [
-        (opened[0] != opened[1]) != opened[2],
-        opened[1],
-        opened[2],
-        false,
-    ];
-    let after = paths::places_after(values, &quarters::word_of_eight(&low, &high), v3, &next);
+    let after = opened_places(values, v, v3, opened);
     let zero = paths::step12(&both[0], &after[0]);
     let one = paths::step12(&both[1], &after[1]);
     let score = paths::lead_of_two(&zero, &one);
@@ -175,6 +202,26 @@ fn last1(
     quarters::one_and_three(score, v11, scores, symbols)
 }
 
+// The word of v0 to v7 but for v3 and the path's own: v has v0, v1, v2 and v4.
+fn word1(v: &[bool; 4]) -> [bool; 8]
+    ensures { λ r. ⌜ ((i : ℕ) → i < 8 → getD r i false ≡ arikanWord 3 (getD (now (v .entry)) 0 false ∷ getD (now (v .entry)) 1 false ∷ getD (now (v .entry)) 2 false ∷ false ∷ getD (now (v .entry)) 3 false ∷ false ∷ false ∷ false ∷ []) i) ⌝ }
+{
+    let low = quarters::word_of_four(v[0], v[1], v[2], false);
+    let high = quarters::word_of_four(v[3], false, false, false);
+    quarters::word_of_eight(&low, &high)
+}
+
+// The eight values that v0 to v7 leave, with v5 by the symbols found.
+fn rest1(values: &[i32], v: &[bool; 4], v3: bool, opened: &[bool; 3], found: &[bool; 3]) -> [i32; 8]
+    requires { ⌜ (length (now values) ≡ 16) × (firstOutside valueLimit (now values) ≡ 16) ⌝ }
+    ensures { λ r. ⌜ ((i : ℕ) → i < 8 → getD r i (pos 0) ≡ knownValue (arikanWord 3 (getD (now (v .entry)) 0 false ∷ getD (now (v .entry)) 1 false ∷ getD (now (v .entry)) 2 false ∷ v3 ∷ getD (now (v .entry)) 3 false ∷ (getD (now (opened .entry)) 2 false ⊕ (getD (now (found .entry)) 0 false ⊕ getD (now (found .entry)) 1 false)) ∷ getD (now (found .entry)) 0 false ∷ getD (now (found .entry)) 2 false ∷ []) i) (getD (now (values .entry)) i (pos 0)) (getD (now (values .entry)) (8 + i) (pos 0))) ⌝ }
+{
+    let v5 = (opened[2] != found[0]) != found[1];
+    let left = [v[0], v[1], v[2], v3];
+    let right = [v[3], v5, found[0], found[2]];
+    quarters::rest_half(values, &left, &right)
+}
+
 // Kernel 1.
 pub fn kernel1(values: &[i32], free: u16, given: u16) -> Straight
     requires { ⌜ (length (now values) ≡ 16) × (firstOutside valueLimit (now values) ≡ 16) ⌝ }
@@ -183,9 +230,7 @@ pub fn kernel1(values: &[i32], free: u16, given: u16) -> Straight
     let eighths = value_folds::free_half(values);
     let a = begin1(&eighths, values, free, given);
     let v = a.symbols;
-    let low = quarters::word_of_four(v[0], v[1], v[2], false);
-    let high = quarters::word_of_four(v[3], false, false, false);
-    let word = quarters::word_of_eight(&low, &high);
+    let word = word1(&v);
     let first = path_rows::first_rows(&eighths, &word);
     let places = paths::places(values, &word);
     let blocks = blocks1(values, &v, &first, &places, free, given);
@@ -207,10 +252,7 @@ pub fn kernel1(values: &[i32], free: u16, given: u16) -> Straight
     let next = widened.score;
     let c = quarters::one_and_three(next, widened.symbol, closing, found);
     let third = c.symbols;
-    let v5 = (opened[2] != found[0]) != found[1];
-    let left = [v[0], v[1], v[2], v3];
-    let right = [v[3], v5, found[0], found[2]];
-    let rest = quarters::rest_half(values, &left, &right);
+    let rest = rest1(values, &v, v3, &opened, &found);
     let d = last1(&rest, v3, &opened, &third, &zero, &one, free, given);
     quarters::joined(a, b, c, d)
 }

@@ -25,7 +25,6 @@ use Rattle.phase_scores.proofs.Quarters.{KnownHalf}
 use Rattle.run.specs.Run.{symbolBy}
 use Rattle.quarters.specs.Part.{Follows}
 use Rattle.quarters.proofs.Bounds.{wider, limit-small, free-half-small, known-half-small}
-use Rattle.quarters.proofs.Index.{fifth}
 use Rattle.quarters.proofs.Rows.{row-small}
 use Rattle.straight_one.proofs.Parts1.{kept-row, closing-part, pick, left-score, left-rest}
 use borrow.Author.Needs.{needs}
@@ -38,55 +37,35 @@ free-half-requires c κs = (c .pre .0, wider valueLimit 16777216 16 (c .args .va
 begin1-requires : tie.Need-begin1-requires
 begin1-requires c κs = (c .before .before .pre .0, c .before .before .pre .1, c .before .free-half .ensures)
 
-array-read-word-of-four : tie.Need-array-read-word-of-four
-array-read-word-of-four c = search needs
-
-array-read-word-of-four-2 : tie.Need-array-read-word-of-four-2
-array-read-word-of-four-2 c = search needs
-
-array-read-word-of-four-3 : tie.Need-array-read-word-of-four-3
-array-read-word-of-four-3 c = search needs
-
-word-of-four-requires : tie.Need-word-of-four-requires
-word-of-four-requires c κs = search needs
-
-array-read-word-of-four-4 : tie.Need-array-read-word-of-four-4
-array-read-word-of-four-4 c = search needs
-
-word-of-four-requires-2 : tie.Need-word-of-four-requires-2
-word-of-four-requires-2 c κs = search needs
-
-word-of-eight-requires : tie.Need-word-of-eight-requires
-word-of-eight-requires c κs = search needs
+word1-requires : tie.Need-word1-requires
+word1-requires c κs = search needs
 
 first-rows-requires : tie.Need-first-rows-requires
-first-rows-requires c κs = wider valueLimit 2097152 8 (c .before .before .before .before .before .before .before .before .before .before .free-half .result) (omega (arith, limit-room)) (free-half-small valueLimit (c .before .before .before .before .before .before .before .before .before .before .before .args .values .now) (c .before .before .before .before .before .before .before .before .before .before .free-half .result) (limit-small (c .before .before .before .before .before .before .before .before .before .before .before .args .values .now) (c .before .before .before .before .before .before .before .before .before .before .before .pre .0) (c .before .before .before .before .before .before .before .before .before .before .before .pre .1)) (c .before .before .before .before .before .before .before .before .before .before .free-half .ensures))
+first-rows-requires c κs = wider valueLimit 2097152 8 (c .before .before .before .before .before .before .before .free-half .result) (omega (arith, limit-room)) (free-half-small valueLimit (c .before .before .before .before .before .before .before .before .args .values .now) (c .before .before .before .before .before .before .before .free-half .result) (limit-small (c .before .before .before .before .before .before .before .before .args .values .now) (c .before .before .before .before .before .before .before .before .pre .0) (c .before .before .before .before .before .before .before .before .pre .1)) (c .before .before .before .before .before .before .before .free-half .ensures))
 
 places-requires : tie.Need-places-requires
-places-requires c κs = (c .before .before .before .before .before .before .before .before .before .before .before .before .before .pre .0, wider valueLimit 4194304 16 (c .before .before .before .before .before .before .before .before .before .before .before .before .before .args .values .now) (omega (arith, limit-room)) (limit-small (c .before .before .before .before .before .before .before .before .before .before .before .before .before .args .values .now) (c .before .before .before .before .before .before .before .before .before .before .before .before .before .pre .0) (c .before .before .before .before .before .before .before .before .before .before .before .before .before .pre .1)))
+places-requires c κs = (c .before .before .before .before .before .before .before .before .before .before .pre .0, wider valueLimit 4194304 16 (c .before .before .before .before .before .before .before .before .before .before .args .values .now) (omega (arith, limit-room)) (limit-small (c .before .before .before .before .before .before .before .before .before .before .args .values .now) (c .before .before .before .before .before .before .before .before .before .before .pre .0) (c .before .before .before .before .before .before .before .before .before .before .pre .1)))
 
 -- The known v of the window's word, and that the code has this word.
 known-v : tie.After-places → List Bool
-known-v c = let v = c .before .before .before .before .before .before .before .before .before .before .before .begin1 .result .symbols in bit v 0 ∷ bit v 1 ∷ bit v 2 ∷ false ∷ bit v 3 ∷ false ∷ false ∷ false ∷ []
+known-v c = let v = c .before .before .before .before .before .before .before .before .begin1 .result .symbols in bit v 0 ∷ bit v 1 ∷ bit v 2 ∷ false ∷ bit v 3 ∷ false ∷ false ∷ false ∷ []
 
-word-is : (c : tie.After-places) (i : ℕ) → i < 8 → getD (c .before .before .before .before .before .word-of-eight .result) i false ≡ arikanWord 3 (known-v c) i
+word-is : (c : tie.After-places) (i : ℕ) → i < 8 → getD (c .before .before .before .before .before .word1 .result) i false ≡ arikanWord 3 (known-v c) i
 unfolding known-v
-word-is c =
-    let v = c .before .before .before .before .before .before .before .before .before .before .before .begin1 .result .symbols in
-    c .before .before .before .before .before .word-of-eight .ensures (bit v 0) (bit v 1) (bit v 2) false (bit v 3) false false false (c .before .before .before .before .before .before .before .before .before .word-of-four .ensures) (c .before .before .before .before .before .before .before .before .word-of-four2 .ensures)
+word-is c = c .before .before .before .before .before .word1 .ensures
 
 -- The first row and the places of each v3.
-row-of-v3 : (c : tie.After-places) (b : Bool) → (let v = c .before .before .before .before .before .before .before .before .before .before .before .begin1 .result .symbols in
-    RowOf b (λ x y z. bestV (c .before .before .before .before .before .before .before .before .before .before .before .before .before .before .args .values .now) (bit v 0 ∷ bit v 1 ∷ bit v 2 ∷ b ∷ bit v 3 ∷ x ∷ y ∷ z ∷ [])) (getD (c .before .before .first-rows .result) (digit b) []))
+row-of-v3 : (c : tie.After-places) (b : Bool) → (let v = c .before .before .before .before .before .before .before .before .begin1 .result .symbols in
+    RowOf b (λ x y z. bestV (c .before .before .before .before .before .before .before .before .before .before .before .args .values .now) (bit v 0 ∷ bit v 1 ∷ bit v 2 ∷ b ∷ bit v 3 ∷ x ∷ y ∷ z ∷ [])) (getD (c .before .before .first-rows .result) (digit b) []))
 unfolding known-v
 row-of-v3 c b =
-    let v = c .before .before .before .before .before .before .before .before .before .before .before .begin1 .result .symbols in
-    first-row1 (c .before .before .before .before .before .before .before .before .before .before .before .before .before .before .args .values .now) (bit v 0) (bit v 1) (bit v 2) b (bit v 3) (c .before .before .before .before .before .before .before .before .before .before .before .before .before .free-half .result) (c .before .before .before .before .before .before .before .before .before .before .before .before .before .free-half .ensures)
-    (bit (c .before .before .before .before .before .word-of-eight .result)) (word-is c) (getD (c .before .before .first-rows .result) (digit b) []) (c .before .before .first-rows .ensures b)
+    let v = c .before .before .before .before .before .before .before .before .begin1 .result .symbols in
+    first-row1 (c .before .before .before .before .before .before .before .before .before .before .before .args .values .now) (bit v 0) (bit v 1) (bit v 2) b (bit v 3) (c .before .before .before .before .before .before .before .before .before .before .free-half .result) (c .before .before .before .before .before .before .before .before .before .before .free-half .ensures)
+    (bit (c .before .before .before .before .before .word1 .result)) (word-is c) (getD (c .before .before .first-rows .result) (digit b) []) (c .before .before .first-rows .ensures b)
 
-places-of-v3 : (c : tie.After-places) (b : Bool) → PlacesOf (c .before .before .before .before .before .before .before .before .before .before .before .before .before .before .args .values .now) (arikanWord 3 (known-v c)) b (getD (c .places .result) (digit b) [])
+places-of-v3 : (c : tie.After-places) (b : Bool) → PlacesOf (c .before .before .before .before .before .before .before .before .before .before .before .args .values .now) (arikanWord 3 (known-v c)) b (getD (c .places .result) (digit b) [])
 places-of-v3 c o b i l =
-    let ys = c .before .before .before .before .before .before .before .before .before .before .before .before .before .before .args .values .now in
+    let ys = c .before .before .before .before .before .before .before .before .before .before .before .args .values .now in
     c .places .ensures o b i l
     ∙ ap₂ (λ p q. freeValue (knownValue (p ⊕ b) (at ys i) (at ys (8 + i))) (knownValue (q ⊕ (b ⊕ o)) (at ys (4 + i)) (at ys (12 + i))))
     (word-is c i (omega arith)) (word-is c (4 + i) (omega arith))
@@ -95,29 +74,29 @@ blocks1-requires : tie.Need-blocks1-requires
 unfolding known-v
 blocks1-requires c κs =
     let d = c .before .before .before in
-    let s = c .before .before .before .before .before .before .before .before .before .before .before .before .before .before .before .before .before in
+    let s = c .before .before .before .before .before .before .before .before .before .before .before .before .before .before in
     ((s .pre .0, s .pre .1), ((row-of-v3 d false, row-of-v3 d true), (places-of-v3 d false, places-of-v3 d true)))
 
 -- The best score of a path of each v3 after v10,
 after-ten : tie.After-blocks1 → Bool → Bool → Bool → Bool → ℤ
 after-ten c b x y z =
-    let v = c .before .before .before .before .before .before .before .before .before .before .before .before .before .before .before .begin1 .result .symbols in
+    let v = c .before .before .before .before .before .before .before .before .before .before .before .before .begin1 .result .symbols in
     let o = c .blocks1 .result .symbols in
-    bestV (c .before .before .before .before .before .before .before .before .before .before .before .before .before .before .before .before .before .before .args .values .now) (bit v 0 ∷ bit v 1 ∷ bit v 2 ∷ b ∷ bit v 3 ∷ x ∷ y ∷ z ∷ bit o 0 ∷ (bit o 1 ⊕ y) ∷ (bit o 2 ⊕ (x ⊕ y)) ∷ [])
+    bestV (c .before .before .before .before .before .before .before .before .before .before .before .before .before .before .before .args .values .now) (bit v 0 ∷ bit v 1 ∷ bit v 2 ∷ b ∷ bit v 3 ∷ x ∷ y ∷ z ∷ bit o 0 ∷ (bit o 1 ⊕ y) ∷ (bit o 2 ⊕ (x ⊕ y)) ∷ [])
 
 -- and that its rows are small.
 zero-small : (c : tie.After-blocks1) → Small 16777216 8 (c .blocks1 .result .zero)
 zero-small c =
-    let s = c .before .before .before .before .before .before .before .before .before .before .before .before .before .before .before .before .before .before in
-    let v = c .before .before .before .before .before .before .before .before .before .before .before .before .before .before .before .begin1 .result .symbols in
+    let s = c .before .before .before .before .before .before .before .before .before .before .before .before .before .before .before in
+    let v = c .before .before .before .before .before .before .before .before .before .before .before .before .begin1 .result .symbols in
     let o = c .blocks1 .result .symbols in
     row-small (s .args .values .now) (s .pre .0) (s .pre .1) false
     (λ x y z. bit v 0 ∷ bit v 1 ∷ bit v 2 ∷ false ∷ bit v 3 ∷ x ∷ y ∷ z ∷ bit o 0 ∷ (bit o 1 ⊕ y) ∷ (bit o 2 ⊕ (x ⊕ y)) ∷ []) (c .blocks1 .result .zero) (c .blocks1 .ensures .1 .0)
 
 one-small : (c : tie.After-blocks1) → Small 16777216 8 (c .blocks1 .result .one)
 one-small c =
-    let s = c .before .before .before .before .before .before .before .before .before .before .before .before .before .before .before .before .before .before in
-    let v = c .before .before .before .before .before .before .before .before .before .before .before .before .before .before .before .begin1 .result .symbols in
+    let s = c .before .before .before .before .before .before .before .before .before .before .before .before .before .before .before in
+    let v = c .before .before .before .before .before .before .before .before .before .before .before .before .begin1 .result .symbols in
     let o = c .blocks1 .result .symbols in
     row-small (s .args .values .now) (s .pre .0) (s .pre .1) true
     (λ x y z. bit v 0 ∷ bit v 1 ∷ bit v 2 ∷ true ∷ bit v 3 ∷ x ∷ y ∷ z ∷ bit o 0 ∷ (bit o 1 ⊕ y) ∷ (bit o 2 ⊕ (x ⊕ y)) ∷ []) (c .blocks1 .result .one) (c .blocks1 .ensures .1 .1)
@@ -131,16 +110,16 @@ symbol-of-requires : tie.Need-symbol-of-requires
 symbol-of-requires c κs = search needs
 
 -- Their lead is the score of v3.
-lead-is : (c : tie.After-lead) → (let v = c .before .before .before .before .before .before .before .before .before .before .before .before .before .before .before .before .before .before .before .before .before .begin1 .result .symbols in
+lead-is : (c : tie.After-lead) → (let v = c .before .before .before .before .before .before .before .before .before .before .before .before .before .before .before .before .before .before .begin1 .result .symbols in
     let o = c .before .before .before .before .before .before .blocks1 .result .symbols in
-    read (c .lead .result) ≡ score (kernelCode 1) (channel (c .before .before .before .before .before .before .before .before .before .before .before .before .before .before .before .before .before .before .before .before .before .before .before .before .args .values .now)) (bit v 0 ∷ bit v 1 ∷ bit v 2 ∷ bit v 3 ∷ bit o 0 ∷ bit o 1 ∷ bit o 2 ∷ []))
+    read (c .lead .result) ≡ score (kernelCode 1) (channel (c .before .before .before .before .before .before .before .before .before .before .before .before .before .before .before .before .before .before .before .before .before .args .values .now)) (bit v 0 ∷ bit v 1 ∷ bit v 2 ∷ bit v 3 ∷ bit o 0 ∷ bit o 1 ∷ bit o 2 ∷ []))
 lead-is c =
-    let v = c .before .before .before .before .before .before .before .before .before .before .before .before .before .before .before .before .before .before .before .before .before .begin1 .result .symbols in
+    let v = c .before .before .before .before .before .before .before .before .before .before .before .before .before .before .before .before .before .before .begin1 .result .symbols in
     let k = c .before .before .before .before .before .before in
     let o = k .blocks1 .result .symbols in
     toZ-ofZ (record { sfits = c .lead .ok })
     ∙ c .lead .ensures
-    ∙ sym (score1-7 (c .before .before .before .before .before .before .before .before .before .before .before .before .before .before .before .before .before .before .before .before .before .before .before .before .args .values .now) (bit v 0) (bit v 1) (bit v 2) (bit v 3) (bit o 0) (bit o 1) (bit o 2) (k .blocks1 .result .zero) (k .blocks1 .result .one) (k .blocks1 .ensures .1 .0) (k .blocks1 .ensures .1 .1))
+    ∙ sym (score1-7 (c .before .before .before .before .before .before .before .before .before .before .before .before .before .before .before .before .before .before .before .before .before .args .values .now) (bit v 0) (bit v 1) (bit v 2) (bit v 3) (bit o 0) (bit o 1) (bit o 2) (k .blocks1 .result .zero) (k .blocks1 .result .one) (k .blocks1 .ensures .1 .0) (k .blocks1 .ensures .1 .1))
 
 three-and-one-requires : tie.Need-three-and-one-requires
 three-and-one-requires c κs = search needs
@@ -148,7 +127,7 @@ three-and-one-requires c κs = search needs
 widened1-requires : tie.Need-widened1-requires
 unfolding after-ten known-v
 widened1-requires c κs =
-    let s = c .before .before .before .before .before .before .before .before .before .before .before .before .before .before .before .before .before .before .before .before .before .before .before .before .before .before .before .before .before .before in
+    let s = c .before .before .before .before .before .before .before .before .before .before .before .before .before .before .before .before .before .before .before .before .before .before .before .before .before .before .before in
     let d = c .before .before .before .before .before .before .before .before .before .before .before .before .before .before .before .before in
     let k = c .before .before .before .before .before .before .before .before .before .before .before .before in
     let x = c .before .before .before .before .before .symbol-of .result in (
@@ -162,8 +141,8 @@ widened1-requires c κs =
 -- The rows of both v11 are small,
 zero-left : (c : tie.After-widened1) → Small 16777216 8 (c .widened1 .result .zero)
 zero-left c =
-    let s = c .before .before .before .before .before .before .before .before .before .before .before .before .before .before .before .before .before .before .before .before .before .before .before .before .before .before .before .before .before .before .before in
-    let v = c .before .before .before .before .before .before .before .before .before .before .before .before .before .before .before .before .before .before .before .before .before .before .before .before .before .before .before .before .begin1 .result .symbols in
+    let s = c .before .before .before .before .before .before .before .before .before .before .before .before .before .before .before .before .before .before .before .before .before .before .before .before .before .before .before .before in
+    let v = c .before .before .before .before .before .before .before .before .before .before .before .before .before .before .before .before .before .before .before .before .before .before .before .before .before .begin1 .result .symbols in
     let o = c .before .before .before .before .before .before .before .before .before .before .before .before .before .blocks1 .result .symbols in
     let e = c .before .before .before .before .before .before .symbol-of .result in
     row-small (s .args .values .now) (s .pre .0) (s .pre .1) e
@@ -171,26 +150,26 @@ zero-left c =
 
 one-left : (c : tie.After-widened1) → Small 16777216 8 (c .widened1 .result .one)
 one-left c =
-    let s = c .before .before .before .before .before .before .before .before .before .before .before .before .before .before .before .before .before .before .before .before .before .before .before .before .before .before .before .before .before .before .before in
-    let v = c .before .before .before .before .before .before .before .before .before .before .before .before .before .before .before .before .before .before .before .before .before .before .before .before .before .before .before .before .begin1 .result .symbols in
+    let s = c .before .before .before .before .before .before .before .before .before .before .before .before .before .before .before .before .before .before .before .before .before .before .before .before .before .before .before .before in
+    let v = c .before .before .before .before .before .before .before .before .before .before .before .before .before .before .before .before .before .before .before .before .before .before .before .before .before .begin1 .result .symbols in
     let o = c .before .before .before .before .before .before .before .before .before .before .before .before .before .blocks1 .result .symbols in
     let e = c .before .before .before .before .before .before .symbol-of .result in
     row-small (s .args .values .now) (s .pre .0) (s .pre .1) e
     (λ x y z. bit v 0 ∷ bit v 1 ∷ bit v 2 ∷ e ∷ bit v 3 ∷ x ∷ y ∷ z ∷ bit o 0 ∷ (bit o 1 ⊕ y) ∷ (bit o 2 ⊕ (x ⊕ y)) ∷ true ∷ c .widened1 .result .symbol ∷ []) (c .widened1 .result .one) (c .widened1 .ensures .1 .1)
 
 -- and the score and the symbol of v12 are as they are read.
-next-is : (c : tie.After-struct-told) → (let v = c .before .before .before .before .before .before .before .before .before .before .before .before .before .before .before .before .before .before .before .before .before .before .before .before .before .before .before .before .before .before .before .before .before .before .before .before .before .before .begin1 .result .symbols in
+next-is : (c : tie.After-struct-told) → (let v = c .before .before .before .before .before .before .before .before .before .before .before .before .before .before .before .before .before .before .before .before .before .before .before .before .before .before .before .before .before .before .before .before .before .before .before .begin1 .result .symbols in
     let o = c .before .before .before .before .before .before .before .before .before .before .before .before .before .before .before .before .before .before .before .before .before .before .before .blocks1 .result .symbols in
-    read (c .before .before .before .before .before .before .before .before .before .before .widened1 .result .score) ≡ score (kernelCode 1) (channel (c .before .before .before .before .before .before .before .before .before .before .before .before .before .before .before .before .before .before .before .before .before .before .before .before .before .before .before .before .before .before .before .before .before .before .before .before .before .before .before .before .before .args .values .now)) (bit v 0 ∷ bit v 1 ∷ bit v 2 ∷ bit v 3 ∷ bit o 0 ∷ bit o 1 ∷ bit o 2 ∷ c .before .before .before .before .before .before .before .before .before .before .before .before .before .before .before .before .symbol-of .result ∷ []))
+    read (c .before .before .before .before .before .before .before .before .before .before .widened1 .result .score) ≡ score (kernelCode 1) (channel (c .before .before .before .before .before .before .before .before .before .before .before .before .before .before .before .before .before .before .before .before .before .before .before .before .before .before .before .before .before .before .before .before .before .before .before .before .before .before .args .values .now)) (bit v 0 ∷ bit v 1 ∷ bit v 2 ∷ bit v 3 ∷ bit o 0 ∷ bit o 1 ∷ bit o 2 ∷ c .before .before .before .before .before .before .before .before .before .before .before .before .before .before .before .before .symbol-of .result ∷ []))
 next-is c = toZ-ofZ (record { sfits = c .struct-told .given .0 .1 }) ∙ c .before .before .before .before .before .before .before .before .before .before .widened1 .ensures .0 .0
 
 next-by : (c : tie.After-struct-told) → c .before .before .before .before .before .before .before .before .before .before .widened1 .result .symbol
-    ≡ symbolBy (bit (bits 16 (c .before .before .before .before .before .before .before .before .before .before .before .before .before .before .before .before .before .before .before .before .before .before .before .before .before .before .before .before .before .before .before .before .before .before .before .before .before .before .before .before .before .args .free)) 8) (bit (bits 16 (c .before .before .before .before .before .before .before .before .before .before .before .before .before .before .before .before .before .before .before .before .before .before .before .before .before .before .before .before .before .before .before .before .before .before .before .before .before .before .before .before .before .args .given)) 8) (read (c .before .before .before .before .before .before .before .before .before .before .widened1 .result .score))
+    ≡ symbolBy (bit (bits 16 (c .before .before .before .before .before .before .before .before .before .before .before .before .before .before .before .before .before .before .before .before .before .before .before .before .before .before .before .before .before .before .before .before .before .before .before .before .before .before .args .free)) 8) (bit (bits 16 (c .before .before .before .before .before .before .before .before .before .before .before .before .before .before .before .before .before .before .before .before .before .before .before .before .before .before .before .before .before .before .before .before .before .before .before .before .before .before .args .given)) 8) (read (c .before .before .before .before .before .before .before .before .before .before .widened1 .result .score))
 next-by c =
     let z = c .before .before .before .before .before .before .before .before .before .before .widened1 .result .score in
     let e : read z ≡ z = toZ-ofZ (record { sfits = c .struct-told .given .0 .1 }) in
     c .before .before .before .before .before .before .before .before .before .before .widened1 .ensures .0 .1
-    ∙ ap (symbolBy (bit (bits 16 (c .before .before .before .before .before .before .before .before .before .before .before .before .before .before .before .before .before .before .before .before .before .before .before .before .before .before .before .before .before .before .before .before .before .before .before .before .before .before .before .before .before .args .free)) 8) (bit (bits 16 (c .before .before .before .before .before .before .before .before .before .before .before .before .before .before .before .before .before .before .before .before .before .before .before .before .before .before .before .before .before .before .before .before .before .before .before .before .before .before .before .before .before .args .given)) 8)) (sym e)
+    ∙ ap (symbolBy (bit (bits 16 (c .before .before .before .before .before .before .before .before .before .before .before .before .before .before .before .before .before .before .before .before .before .before .before .before .before .before .before .before .before .before .before .before .before .before .before .before .before .before .args .free)) 8) (bit (bits 16 (c .before .before .before .before .before .before .before .before .before .before .before .before .before .before .before .before .before .before .before .before .before .before .before .before .before .before .before .before .before .before .before .before .before .before .before .before .before .before .args .given)) 8)) (sym e)
 
 best-each-requires : tie.Need-best-each-requires
 best-each-requires c κs = search needs
@@ -210,59 +189,26 @@ close-requires c κs = (kept-small (c .before), omega arith)
 one-and-three-requires : tie.Need-one-and-three-requires
 one-and-three-requires c κs = search needs
 
-array-read-v5 : tie.Need-array-read-v5
-array-read-v5 c = search needs
-
-array-read-v5-2 : tie.Need-array-read-v5-2
-array-read-v5-2 c = search needs
-
-array-read-v5-3 : tie.Need-array-read-v5-3
-array-read-v5-3 c = search needs
-
-array-read-t44 : tie.Need-array-read-t44
-array-read-t44 c = search needs
-
-array-read-t77 : tie.Need-array-read-t77
-array-read-t77 c = search needs
-
-array-read-t47 : tie.Need-array-read-t47
-array-read-t47 c = search needs
-
-array-read-t41 : tie.Need-array-read-t41
-array-read-t41 c = search needs
-
-array-read-t47-2 : tie.Need-array-read-t47-2
-array-read-t47-2 c = search needs
-
-array-read-t77-2 : tie.Need-array-read-t77-2
-array-read-t77-2 c = search needs
-
-rest-half-requires : tie.Need-rest-half-requires
-rest-half-requires c κs = (c .before .before .before .before .before .before .before .before .before .before .before .before .before .before .before .before .before .before .before .before .before .before .before .before .before .before .before .before .before .before .before .before .before .before .before .before .before .before .before .before .before .before .before .before .before .pre .0, c .before .before .before .before .before .before .before .before .before .before .before .before .before .before .before .before .before .before .before .before .before .before .before .before .before .before .before .before .before .before .before .before .before .before .before .before .before .before .before .before .before .before .before .before .before .pre .1)
+rest1-requires : tie.Need-rest1-requires
+rest1-requires c κs = (c .before .before .before .before .before .before .before .before .before .before .before .before .before .before .before .before .before .before .before .before .before .before .before .before .before .before .before .before .before .before .before .before .before .before .before .before .before .before .before .before .before .before .before .pre .0, c .before .before .before .before .before .before .before .before .before .before .before .before .before .before .before .before .before .before .before .before .before .before .before .before .before .before .before .before .before .before .before .before .before .before .before .before .before .before .before .before .before .before .before .pre .1)
 
 -- The first eight v, and the values that they leave.
-eight-v : tie.After-rest-half → List Bool
+eight-v : tie.After-rest1 → List Bool
 eight-v c =
-    let v = c .before .before .before .before .before .before .before .before .before .before .before .before .before .before .before .before .before .before .before .before .before .before .before .before .before .before .before .before .before .before .before .before .before .before .before .before .before .before .before .before .before .before .before .begin1 .result .symbols in
-    let o = c .before .before .before .before .before .before .before .before .before .before .before .before .before .before .before .before .before .before .before .before .before .before .before .before .before .before .before .before .blocks1 .result .symbols in
-    let q = c .before .before .before .before .before .before .before .before .close .result .symbols in
-    bit v 0 ∷ bit v 1 ∷ bit v 2 ∷ c .before .before .before .before .before .before .before .before .before .before .before .before .before .before .before .before .before .before .before .before .before .symbol-of .result ∷ bit v 3 ∷ (bit o 2 ⊕ (bit q 0 ⊕ bit q 1)) ∷ bit q 0 ∷ bit q 2 ∷ []
+    let v = c .before .before .before .before .before .before .before .before .before .before .before .before .before .before .before .before .before .before .before .before .before .before .before .before .before .before .before .before .before .before .before .before .before .before .before .before .before .before .before .before .before .begin1 .result .symbols in
+    let o = c .before .before .before .before .before .before .before .before .before .before .before .before .before .before .before .before .before .before .before .before .before .before .before .before .before .before .before .before .before .blocks1 .result .symbols in
+    let q = c .before .before .before .before .before .before .before .before .before .close .result .symbols in
+    bit v 0 ∷ bit v 1 ∷ bit v 2 ∷ c .before .before .before .before .before .before .before .before .before .before .before .before .before .before .before .before .before .before .before .before .before .before .symbol-of .result ∷ bit v 3 ∷ (bit o 2 ⊕ (bit q 0 ⊕ bit q 1)) ∷ bit q 0 ∷ bit q 2 ∷ []
 
-rest-is : (c : tie.After-rest-half) → KnownHalf (c .before .before .before .before .before .before .before .before .before .before .before .before .before .before .before .before .before .before .before .before .before .before .before .before .before .before .before .before .before .before .before .before .before .before .before .before .before .before .before .before .before .before .before .before .before .before .args .values .now) (arikanWord 3 (eight-v c)) (c .rest-half .result)
+rest-is : (c : tie.After-rest1) → KnownHalf (c .before .before .before .before .before .before .before .before .before .before .before .before .before .before .before .before .before .before .before .before .before .before .before .before .before .before .before .before .before .before .before .before .before .before .before .before .before .before .before .before .before .before .before .before .args .values .now) (arikanWord 3 (eight-v c)) (c .rest1 .result)
 unfolding eight-v
-rest-is c i l =
-    let ys = c .before .before .before .before .before .before .before .before .before .before .before .before .before .before .before .before .before .before .before .before .before .before .before .before .before .before .before .before .before .before .before .before .before .before .before .before .before .before .before .before .before .before .before .before .before .before .args .values .now in
-    let v = c .before .before .before .before .before .before .before .before .before .before .before .before .before .before .before .before .before .before .before .before .before .before .before .before .before .before .before .before .before .before .before .before .before .before .before .before .before .before .before .before .before .before .before .begin1 .result .symbols in
-    let o = c .before .before .before .before .before .before .before .before .before .before .before .before .before .before .before .before .before .before .before .before .before .before .before .before .before .before .before .before .blocks1 .result .symbols in
-    let q = c .before .before .before .before .before .before .before .before .close .result .symbols in
-    c .rest-half .ensures i l
-    ∙ ap (λ b. knownValue (arikanWord 3 (bit v 0 ∷ bit v 1 ∷ bit v 2 ∷ c .before .before .before .before .before .before .before .before .before .before .before .before .before .before .before .before .before .before .before .before .before .symbol-of .result ∷ bit v 3 ∷ b ∷ bit q 0 ∷ bit q 2 ∷ []) i) (at ys i) (at ys (8 + i))) (fifth (bit o 2) (bit q 0) (bit q 1))
+rest-is c i l = c .rest1 .ensures i l
 
 last1-requires : tie.Need-last1-requires
 last1-requires c κs =
-    let s = c .before .before .before .before .before .before .before .before .before .before .before .before .before .before .before .before .before .before .before .before .before .before .before .before .before .before .before .before .before .before .before .before .before .before .before .before .before .before .before .before .before .before .before .before .before .before .before .before .before .before .before in
-    let w = c .before .before .before .before .before .before .before .before .before .before .before .before .before .before .before .before .before .before .before .before in
-    let r = c .before .before .before .before .before .rest-half in (
+    let s = c .before .before .before .before .before .before .before .before .before .before .before .before .before .before .before .before .before .before .before .before .before .before .before .before .before .before .before .before .before .before .before .before .before .before .before .before .before .before .before .before .before .before .before .before .before .before .before .before .before in
+    let w = c .before .before .before .before .before .before .before .before .before .before .before .before .before .before .before .before .before .before .before .before .before in
+    let r = c .before .before .before .before .before .rest1 in (
       wider (valueLimit + valueLimit) 2097152 8 (r .result) (omega (arith, limit-room))
           (known-half-small valueLimit (s .args .values .now) (r .result) (limit-small (s .args .values .now) (s .pre .0) (s .pre .1)) (arikanWord 3 (eight-v (c .before .before .before .before .before))) (rest-is (c .before .before .before .before .before))),
       zero-left w,
@@ -270,24 +216,24 @@ last1-requires c κs =
     )
 
 -- The last four phases.
-last-follows : (c : tie.After-last1) → (let s = c .before .before .before .before .before .before .before .before .before .before .before .before .before .before .before .before .before .before .before .before .before .before .before .before .before .before .before .before .before .before .before .before .before .before .before .before .before .before .before .before .before .before .before .before .before .before .before .before .before .before .before .before in
-    let v = c .before .before .before .before .before .before .before .before .before .before .before .before .before .before .before .before .before .before .before .before .before .before .before .before .before .before .before .before .before .before .before .before .before .before .before .before .before .before .before .before .before .before .before .before .before .before .before .before .before .begin1 .result .symbols in
-    let o = c .before .before .before .before .before .before .before .before .before .before .before .before .before .before .before .before .before .before .before .before .before .before .before .before .before .before .before .before .before .before .before .before .before .before .blocks1 .result .symbols in
-    let n = c .before .before .before .before .before .before .before .before .before .before .one-and-three .result .symbols in
-    Follows (λ r. score (kernelCode 1) (channel (s .args .values .now)) (bit v 0 ∷ bit v 1 ∷ bit v 2 ∷ bit v 3 ∷ bit o 0 ∷ bit o 1 ∷ bit o 2 ∷ c .before .before .before .before .before .before .before .before .before .before .before .before .before .before .before .before .before .before .before .before .before .before .before .before .before .before .before .symbol-of .result ∷ bit n 0 ∷ bit n 1 ∷ bit n 2 ∷ bit n 3 ∷ r))
+last-follows : (c : tie.After-last1) → (let s = c .before .before .before .before .before .before .before .before .before .before .before .before .before .before .before .before .before .before .before .before .before .before .before .before .before .before .before .before .before .before .before .before .before .before .before .before .before .before .before .before .before .before .before .before .before .before .before .before .before .before in
+    let v = c .before .before .before .before .before .before .before .before .before .before .before .before .before .before .before .before .before .before .before .before .before .before .before .before .before .before .before .before .before .before .before .before .before .before .before .before .before .before .before .before .before .before .before .before .before .before .before .begin1 .result .symbols in
+    let o = c .before .before .before .before .before .before .before .before .before .before .before .before .before .before .before .before .before .before .before .before .before .before .before .before .before .before .before .before .before .before .before .before .before .before .before .blocks1 .result .symbols in
+    let n = c .before .before .before .before .before .before .before .before .before .before .before .one-and-three .result .symbols in
+    Follows (λ r. score (kernelCode 1) (channel (s .args .values .now)) (bit v 0 ∷ bit v 1 ∷ bit v 2 ∷ bit v 3 ∷ bit o 0 ∷ bit o 1 ∷ bit o 2 ∷ c .before .before .before .before .before .before .before .before .before .before .before .before .before .before .before .before .before .before .before .before .before .before .before .before .before .before .before .before .symbol-of .result ∷ bit n 0 ∷ bit n 1 ∷ bit n 2 ∷ bit n 3 ∷ r))
     (λ i. bit (bits 16 (s .args .free)) (12 + i)) (λ i. bit (bits 16 (s .args .given)) (12 + i)) 4 (c .last1 .result .scores) (c .last1 .result .symbols))
 unfolding eight-v
 last-follows c =
-    let s = c .before .before .before .before .before .before .before .before .before .before .before .before .before .before .before .before .before .before .before .before .before .before .before .before .before .before .before .before .before .before .before .before .before .before .before .before .before .before .before .before .before .before .before .before .before .before .before .before .before .before .before .before in
+    let s = c .before .before .before .before .before .before .before .before .before .before .before .before .before .before .before .before .before .before .before .before .before .before .before .before .before .before .before .before .before .before .before .before .before .before .before .before .before .before .before .before .before .before .before .before .before .before .before .before .before .before in
     let ys = s .args .values .now in
-    let v = c .before .before .before .before .before .before .before .before .before .before .before .before .before .before .before .before .before .before .before .before .before .before .before .before .before .before .before .before .before .before .before .before .before .before .before .before .before .before .before .before .before .before .before .before .before .before .before .before .before .begin1 .result .symbols in
-    let o = c .before .before .before .before .before .before .before .before .before .before .before .before .before .before .before .before .before .before .before .before .before .before .before .before .before .before .before .before .before .before .before .before .before .before .blocks1 .result .symbols in
-    let x = c .before .before .before .before .before .before .before .before .before .before .before .before .before .before .before .before .before .before .before .before .before .before .before .before .before .before .before .symbol-of .result in
-    let w = c .before .before .before .before .before .before .before .before .before .before .before .before .before .before .before .before .before .before .before .before .before .widened1 in
-    let q = c .before .before .before .before .before .before .before .before .before .before .before .before .before .before .close .result .symbols in
+    let v = c .before .before .before .before .before .before .before .before .before .before .before .before .before .before .before .before .before .before .before .before .before .before .before .before .before .before .before .before .before .before .before .before .before .before .before .before .before .before .before .before .before .before .before .before .before .before .before .begin1 .result .symbols in
+    let o = c .before .before .before .before .before .before .before .before .before .before .before .before .before .before .before .before .before .before .before .before .before .before .before .before .before .before .before .before .before .before .before .before .before .before .before .blocks1 .result .symbols in
+    let x = c .before .before .before .before .before .before .before .before .before .before .before .before .before .before .before .before .before .before .before .before .before .before .before .before .before .before .before .before .symbol-of .result in
+    let w = c .before .before .before .before .before .before .before .before .before .before .before .before .before .before .before .before .before .before .before .before .before .before .widened1 in
+    let q = c .before .before .before .before .before .before .before .before .before .before .before .before .before .before .before .close .result .symbols in
     let t = w .result .symbol in
-    let n = c .before .before .before .before .before .before .before .before .before .before .one-and-three in
-    let r = c .before .before .before .before .before .before .rest-half in
+    let n = c .before .before .before .before .before .before .before .before .before .before .before .one-and-three in
+    let r = c .before .before .before .before .before .before .rest1 in
     c .last1 .ensures
     (λ p. score (kernelCode 1) (channel ys) (bit v 0 ∷ bit v 1 ∷ bit v 2 ∷ bit v 3 ∷ bit o 0 ∷ bit o 1 ∷ bit o 2 ∷ x ∷ bit (n .result .symbols) 0 ∷ bit (n .result .symbols) 1 ∷ bit (n .result .symbols) 2 ∷ bit (n .result .symbols) 3 ∷ p))
     (left-score ys (bit v 0) (bit v 1) (bit v 2) (bit v 3) (bit o 0) (bit o 1) (bit o 2) x t (bit q 0) (bit q 1) (bit q 2) (w .result .zero) (w .result .one) (r .result) (w .ensures .1 .0) (w .ensures .1 .1) (rest-is (c .before .before .before .before .before .before)) (n .result .symbols) (n .ensures .1))
@@ -298,31 +244,31 @@ joined-requires c κs = search needs
 
 returns : tie.Need-returns
 returns c =
-    let s = c .before .before .before .before .before .before .before .before .before .before .before .before .before .before .before .before .before .before .before .before .before .before .before .before .before .before .before .before .before .before .before .before .before .before .before .before .before .before .before .before .before .before .before .before .before .before .before .before .before .before .before .before .before in
+    let s = c .before .before .before .before .before .before .before .before .before .before .before .before .before .before .before .before .before .before .before .before .before .before .before .before .before .before .before .before .before .before .before .before .before .before .before .before .before .before .before .before .before .before .before .before .before .before .before .before .before .before .before in
     let ys = s .args .values .now in
     let f = bit (bits 16 (s .args .free)) in
     let g = bit (bits 16 (s .args .given)) in
     let sc = score (kernelCode 1) (channel ys) in
-    let v = c .before .before .before .before .before .before .before .before .before .before .before .before .before .before .before .before .before .before .before .before .before .before .before .before .before .before .before .before .before .before .before .before .before .before .before .before .before .before .before .before .before .before .before .before .before .before .before .before .before .before .begin1 .result .symbols in
-    let k = c .before .before .before .before .before .before .before .before .before .before .before .before .before .before .before .before .before .before .before .before .before .before .before .before .before .before .before .before .before .before .before .before .before .before .before in
+    let v = c .before .before .before .before .before .before .before .before .before .before .before .before .before .before .before .before .before .before .before .before .before .before .before .before .before .before .before .before .before .before .before .before .before .before .before .before .before .before .before .before .before .before .before .before .before .before .before .before .begin1 .result .symbols in
+    let k = c .before .before .before .before .before .before .before .before .before .before .before .before .before .before .before .before .before .before .before .before .before .before .before .before .before .before .before .before .before .before .before .before .before .before .before .before in
     let o = k .blocks1 .result .symbols in
-    let l = c .before .before .before .before .before .before .before .before .before .before .before .before .before .before .before .before .before .before .before .before .before .before .before .before .before .before .before .before .before in
-    let x = c .before .before .before .before .before .before .before .before .before .before .before .before .before .before .before .before .before .before .before .before .before .before .before .before .before .before .before .before .symbol-of .result in
-    let b = c .before .before .before .before .before .before .before .before .before .before .before .before .before .before .before .before .before .before .before .before .before .before .before .before .before .before .before .three-and-one in
-    let w = c .before .before .before .before .before .before .before .before .before .before .before .before .before .before .before .before .before .before .before .before .before .before in
+    let l = c .before .before .before .before .before .before .before .before .before .before .before .before .before .before .before .before .before .before .before .before .before .before .before .before .before .before .before .before .before .before in
+    let x = c .before .before .before .before .before .before .before .before .before .before .before .before .before .before .before .before .before .before .before .before .before .before .before .before .before .before .before .before .before .symbol-of .result in
+    let b = c .before .before .before .before .before .before .before .before .before .before .before .before .before .before .before .before .before .before .before .before .before .before .before .before .before .before .before .before .three-and-one in
+    let w = c .before .before .before .before .before .before .before .before .before .before .before .before .before .before .before .before .before .before .before .before .before .before .before in
     let t = w .widened1 .result .symbol in
-    let n = c .before .before .before .before .before .before .before .before .before .before .before .one-and-three in
-    let p = c .before .before .before .before .before .before .before .before .before .before .before .before .before .before .before .close in
+    let n = c .before .before .before .before .before .before .before .before .before .before .before .before .one-and-three in
+    let p = c .before .before .before .before .before .before .before .before .before .before .before .before .before .before .before .before .close in
     let q = p .result .symbols in
-    let kept = c .before .before .before .before .before .before .before .before .before .before .before .before .before .before .before .before .before .best-each .result in
+    let kept = c .before .before .before .before .before .before .before .before .before .before .before .before .before .before .before .before .before .before .best-each .result in
     let row = kept-row ys (bit v 0) (bit v 1) (bit v 2) (bit v 3) (bit o 0) (bit o 1) (bit o 2) x t (w .widened1 .result .zero) (w .widened1 .result .one) kept
-    (w .widened1 .ensures .1 .0) (w .widened1 .ensures .1 .1) (c .before .before .before .before .before .before .before .before .before .before .before .before .before .before .before .before .before .best-each .ensures) in
+    (w .widened1 .ensures .1 .0) (w .widened1 .ensures .1 .1) (c .before .before .before .before .before .before .before .before .before .before .before .before .before .before .before .before .before .before .best-each .ensures) in
     let head = bit v 0 ∷ bit v 1 ∷ bit v 2 ∷ bit v 3 ∷ [] in
     c .joined .ensures sc f g
-    (c .before .before .before .before .before .before .before .before .before .before .before .before .before .before .before .before .before .before .before .before .before .before .before .before .before .before .before .before .before .before .before .before .before .before .before .before .before .before .before .before .before .before .before .before .before .before .before .before .before .before .begin1 .ensures)
-    (b .ensures .0 (λ r. sc (bit v 0 ∷ bit v 1 ∷ bit v 2 ∷ bit v 3 ∷ r)) (λ i. f (4 + i)) (λ i. g (4 + i)) (k .blocks1 .ensures .0) (lead-is l) (c .before .before .before .before .before .before .before .before .before .before .before .before .before .before .before .before .before .before .before .before .before .before .before .before .before .before .before .before .symbol-of .ensures))
+    (c .before .before .before .before .before .before .before .before .before .before .before .before .before .before .before .before .before .before .before .before .before .before .before .before .before .before .before .before .before .before .before .before .before .before .before .before .before .before .before .before .before .before .before .before .before .before .before .before .begin1 .ensures)
+    (b .ensures .0 (λ r. sc (bit v 0 ∷ bit v 1 ∷ bit v 2 ∷ bit v 3 ∷ r)) (λ i. f (4 + i)) (λ i. g (4 + i)) (k .blocks1 .ensures .0) (lead-is l) (c .before .before .before .before .before .before .before .before .before .before .before .before .before .before .before .before .before .before .before .before .before .before .before .before .before .before .before .before .before .symbol-of .ensures))
     (subst⁻¹ (λ (e : List Bool). Follows (λ r. sc (bit v 0 ∷ bit v 1 ∷ bit v 2 ∷ bit v 3 ∷ bit e 0 ∷ bit e 1 ∷ bit e 2 ∷ bit e 3 ∷ r)) (λ i. f (8 + i)) (λ i. g (8 + i)) 4 (n .result .scores) (n .result .symbols)) (b .ensures .1)
-    (n .ensures .0 (λ r. sc (bit v 0 ∷ bit v 1 ∷ bit v 2 ∷ bit v 3 ∷ bit o 0 ∷ bit o 1 ∷ bit o 2 ∷ x ∷ r)) (λ i. f (8 + i)) (λ i. g (8 + i)) (next-is (c .before .before .before .before .before .before .before .before .before .before .before .before)) (next-by (c .before .before .before .before .before .before .before .before .before .before .before .before))
+    (n .ensures .0 (λ r. sc (bit v 0 ∷ bit v 1 ∷ bit v 2 ∷ bit v 3 ∷ bit o 0 ∷ bit o 1 ∷ bit o 2 ∷ x ∷ r)) (λ i. f (8 + i)) (λ i. g (8 + i)) (next-is (c .before .before .before .before .before .before .before .before .before .before .before .before .before)) (next-by (c .before .before .before .before .before .before .before .before .before .before .before .before .before))
     (closing-part ys (bit v 0) (bit v 1) (bit v 2) (bit v 3) (bit o 0) (bit o 1) (bit o 2) x t f g kept (p .result .scores) q row (p .ensures))))
     (subst⁻¹ (λ (e : List Bool). Follows (λ r. sc (bit v 0 ∷ bit v 1 ∷ bit v 2 ∷ bit v 3 ∷ bit e 0 ∷ bit e 1 ∷ bit e 2 ∷ bit e 3 ∷ bit (n .result .symbols) 0 ∷ bit (n .result .symbols) 1 ∷ bit (n .result .symbols) 2 ∷ bit (n .result .symbols) 3 ∷ r)) (λ i. f (12 + i)) (λ i. g (12 + i)) 4 (c .before .last1 .result .scores) (c .before .last1 .result .symbols)) (b .ensures .1)
     (last-follows (c .before)))
@@ -333,13 +279,7 @@ kernel1-spec =
     (tie.spec
     free-half-requires
     begin1-requires
-    array-read-word-of-four
-    array-read-word-of-four-2
-    array-read-word-of-four-3
-    word-of-four-requires
-    array-read-word-of-four-4
-    word-of-four-requires-2
-    word-of-eight-requires
+    word1-requires
     first-rows-requires
     places-requires
     blocks1-requires
@@ -351,16 +291,7 @@ kernel1-spec =
     array-read-close
     close-requires
     one-and-three-requires
-    array-read-v5
-    array-read-v5-2
-    array-read-v5-3
-    array-read-t44
-    array-read-t77
-    array-read-t47
-    array-read-t41
-    array-read-t47-2
-    array-read-t77-2
-    rest-half-requires
+    rest1-requires
     last1-requires
     joined-requires
     returns)

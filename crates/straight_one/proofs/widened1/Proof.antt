@@ -87,57 +87,12 @@ rows11 c =
     let s = c .before .before .before .before .before .before in
     eleven (ys s) (s .pre .0 .0) (s .pre .0 .1) (v s 0) (v s 1) (v s 2) (v s 3) (s .args .v3) (places-at s) (s .pre .1 .1) (opened s 0) (opened s 1) (opened s 2) (kept-at s) (c .step11 .result) (s .pre .1 .0) (c .step11 .ensures)
 
-element-copy-out-word-of-four : tie.Need-element-copy-out-word-of-four
-element-copy-out-word-of-four c = search needs
-
-element-copy-out-word-of-four-2 : tie.Need-element-copy-out-word-of-four-2
-element-copy-out-word-of-four-2 c = search needs
-
-element-copy-out-word-of-four-3 : tie.Need-element-copy-out-word-of-four-3
-element-copy-out-word-of-four-3 c = search needs
-
-word-of-four-requires : tie.Need-word-of-four-requires
-word-of-four-requires c κs = search needs
-
-element-copy-out-word-of-four-4 : tie.Need-element-copy-out-word-of-four-4
-element-copy-out-word-of-four-4 c = search needs
-
-word-of-four-requires-2 : tie.Need-word-of-four-requires-2
-word-of-four-requires-2 c κs = search needs
-
-element-copy-out-t39 : tie.Need-element-copy-out-t39
-element-copy-out-t39 c = search needs
-
-element-copy-out-t36 : tie.Need-element-copy-out-t36
-element-copy-out-t36 c = search needs
-
-element-copy-out-t55 : tie.Need-element-copy-out-t55
-element-copy-out-t55 c = search needs
-
-element-copy-out-t59 : tie.Need-element-copy-out-t59
-element-copy-out-t59 c = search needs
-
-element-copy-out-t62 : tie.Need-element-copy-out-t62
-element-copy-out-t62 c = search needs
-
-word-of-eight-requires : tie.Need-word-of-eight-requires
-word-of-eight-requires c κs = search needs
-
-places-after-requires : tie.Need-places-after-requires
-places-after-requires c κs =
-    let s = c .before .before .before .before .before .before .before .before .before .before .before .before .before .before .before .before .before .before .before .before .before .before in
-    (s .pre .0 .0, wider valueLimit 4194304 16 (ys s) (omega (arith, limit-room)) (limit-small (ys s) (s .pre .0 .0) (s .pre .0 .1)))
+opened-places-requires : tie.Need-opened-places-requires
+opened-places-requires c κs = (c .before .before .before .before .before .before .pre .0 .0, c .before .before .before .before .before .before .pre .0 .1)
 
 -- the places of the paths for either,
-after : (c : tie.After-places-after) (q : Bool) → (let s = c .before .before .before .before .before .before .before .before .before .before .before .before .before .before .before .before .before .before .before .before .before .before .before in AfterOf (ys s) (word s) (s .args .v3) (next s) q (rowOf (c .places-after .result) q))
-after c q =
-    let s = c .before .before .before .before .before .before .before .before .before .before .before .before .before .before .before .before .before .before .before .before .before .before .before in
-    after-as (ys s) (word s) (s .args .v3)
-    (bit (c .before .before .before .word-of-eight .result))
-    (c .before .before .before .word-of-eight .ensures (v s 0) (v s 1) (v s 2) false (v s 3) false false false (c .before .before .before .before .before .before .before .before .before .before .before .before .before .word-of-four .ensures) (c .before .before .before .before .before .before .before .before .before .before .before .word-of-four2 .ensures))
-    (bit (not (Bool·beq (not (Bool·beq (opened s 0) (opened s 1))) (opened s 2)) ∷ opened s 1 ∷ opened s 2 ∷ false ∷ [])) (next s)
-    (below-4 _ (differ-twice (opened s 0) (opened s 1) (opened s 2)) refl refl refl)
-    q (rowOf (c .places-after .result) q) (c .places-after .ensures q)
+after : (c : tie.After-opened-places) (q : Bool) → (let s = c .before .before .before .before .before .before .before in AfterOf (ys s) (word s) (s .args .v3) (next s) q (rowOf (c .opened-places .result) q))
+after c q = c .opened-places .ensures q
 
 index-1-step12 : tie.Need-index-1-step12
 index-1-step12 c = search needs
@@ -147,17 +102,17 @@ index-1-step12-2 c = search needs
 
 step12-requires : tie.Need-step12-requires
 step12-requires c κs =
-    let s = c .before .before .before .before .before .before .before .before .before .before .before .before .before .before .before .before .before .before .before .before .before .before .before .before .before in
+    let s = c .before .before .before .before .before .before .before .before .before in
     let p = c .before .before in
-    (rows11 (c .before .before .before .before .before .before .before .before .before .before .before .before .before .before .before .before .before .before .before) .small false, after-room (ys s) (word s) (s .args .v3) (s .pre .0 .0) (s .pre .0 .1) (next s) false (rowOf (p .places-after .result) false) (after p false))
+    (rows11 (c .before .before .before) .small false, after-room (ys s) (word s) (s .args .v3) (s .pre .0 .0) (s .pre .0 .1) (next s) false (rowOf (p .opened-places .result) false) (after p false))
 
 -- the rows of v12 with v11 = 0,
-zero : (c : tie.After-step12) → (let s = c .before .before .before .before .before .before .before .before .before .before .before .before .before .before .before .before .before .before .before .before .before .before .before .before .before .before in Rows (ys s) (s .args .v3) (upto12 (v s 0) (v s 1) (v s 2) (v s 3) (s .args .v3) (opened s 0) (opened s 1) (opened s 2) false) (c .step12 .result))
+zero : (c : tie.After-step12) → (let s = c .before .before .before .before .before .before .before .before .before .before in Rows (ys s) (s .args .v3) (upto12 (v s 0) (v s 1) (v s 2) (v s 3) (s .args .v3) (opened s 0) (opened s 1) (opened s 2) false) (c .step12 .result))
 zero c =
-    let s = c .before .before .before .before .before .before .before .before .before .before .before .before .before .before .before .before .before .before .before .before .before .before .before .before .before .before in
+    let s = c .before .before .before .before .before .before .before .before .before .before in
     let p = c .before .before .before in
-    twelve (ys s) (s .pre .0 .0) (s .pre .0 .1) (v s 0) (v s 1) (v s 2) (v s 3) (s .args .v3) (opened s 0) (opened s 1) (opened s 2) false (rowOf (p .places-after .result) false) (after p false)
-    (c .before .before .before .before .before .before .before .before .before .before .before .before .before .before .before .before .before .before .before .before .step11 .result) (c .step12 .result) (rows11 (c .before .before .before .before .before .before .before .before .before .before .before .before .before .before .before .before .before .before .before .before)) (c .step12 .ensures)
+    twelve (ys s) (s .pre .0 .0) (s .pre .0 .1) (v s 0) (v s 1) (v s 2) (v s 3) (s .args .v3) (opened s 0) (opened s 1) (opened s 2) false (rowOf (p .opened-places .result) false) (after p false)
+    (c .before .before .before .before .step11 .result) (c .step12 .result) (rows11 (c .before .before .before .before)) (c .step12 .ensures)
 
 index-1-step12-3 : tie.Need-index-1-step12-3
 index-1-step12-3 c = search needs
@@ -167,17 +122,17 @@ index-1-step12-4 c = search needs
 
 step12-requires-2 : tie.Need-step12-requires-2
 step12-requires-2 c κs =
-    let s = c .before .before .before .before .before .before .before .before .before .before .before .before .before .before .before .before .before .before .before .before .before .before .before .before .before .before .before .before in
+    let s = c .before .before .before .before .before .before .before .before .before .before .before .before in
     let p = c .before .before .before .before .before in
-    (rows11 (c .before .before .before .before .before .before .before .before .before .before .before .before .before .before .before .before .before .before .before .before .before .before) .small true, after-room (ys s) (word s) (s .args .v3) (s .pre .0 .0) (s .pre .0 .1) (next s) true (rowOf (p .places-after .result) true) (after p true))
+    (rows11 (c .before .before .before .before .before .before) .small true, after-room (ys s) (word s) (s .args .v3) (s .pre .0 .0) (s .pre .0 .1) (next s) true (rowOf (p .opened-places .result) true) (after p true))
 
 -- and with v11 = 1.
-one : (c : tie.After-step122) → (let s = c .before .before .before .before .before .before .before .before .before .before .before .before .before .before .before .before .before .before .before .before .before .before .before .before .before .before .before .before .before in Rows (ys s) (s .args .v3) (upto12 (v s 0) (v s 1) (v s 2) (v s 3) (s .args .v3) (opened s 0) (opened s 1) (opened s 2) true) (c .step122 .result))
+one : (c : tie.After-step122) → (let s = c .before .before .before .before .before .before .before .before .before .before .before .before .before in Rows (ys s) (s .args .v3) (upto12 (v s 0) (v s 1) (v s 2) (v s 3) (s .args .v3) (opened s 0) (opened s 1) (opened s 2) true) (c .step122 .result))
 one c =
-    let s = c .before .before .before .before .before .before .before .before .before .before .before .before .before .before .before .before .before .before .before .before .before .before .before .before .before .before .before .before .before in
+    let s = c .before .before .before .before .before .before .before .before .before .before .before .before .before in
     let p = c .before .before .before .before .before .before in
-    twelve (ys s) (s .pre .0 .0) (s .pre .0 .1) (v s 0) (v s 1) (v s 2) (v s 3) (s .args .v3) (opened s 0) (opened s 1) (opened s 2) true (rowOf (p .places-after .result) true) (after p true)
-    (c .before .before .before .before .before .before .before .before .before .before .before .before .before .before .before .before .before .before .before .before .before .before .before .step11 .result) (c .step122 .result) (rows11 (c .before .before .before .before .before .before .before .before .before .before .before .before .before .before .before .before .before .before .before .before .before .before .before)) (c .step122 .ensures)
+    twelve (ys s) (s .pre .0 .0) (s .pre .0 .1) (v s 0) (v s 1) (v s 2) (v s 3) (s .args .v3) (opened s 0) (opened s 1) (opened s 2) true (rowOf (p .opened-places .result) true) (after p true)
+    (c .before .before .before .before .before .before .before .step11 .result) (c .step122 .result) (rows11 (c .before .before .before .before .before .before .before)) (c .step122 .ensures)
 
 lead-of-two-requires : tie.Need-lead-of-two-requires
 lead-of-two-requires c κs =
@@ -208,7 +163,7 @@ array-copy-out-kept-one c = byte-small (c .before .symbol-of .result)
 
 returns : tie.Need-returns
 returns c =
-    let s = c .before .before .before .before .before .before .before .before .before .before .before .before .before .before .before .before .before .before .before .before .before .before .before .before .before .before .before .before .before .before .before .before .before .before .before in
+    let s = c .before .before .before .before .before .before .before .before .before .before .before .before .before .before .before .before .before .before .before in
     let z = zero (c .before .before .before .before .before .before .before .before .before) in
     let o = one (c .before .before .before .before .before .before) in
     let p = c .before .before .before .before .before .before .before .before .before .step12 .result in
@@ -237,19 +192,7 @@ widened1-spec =
     element-copy-out-step11-2
     element-copy-out-step11-3
     step11-requires
-    element-copy-out-word-of-four
-    element-copy-out-word-of-four-2
-    element-copy-out-word-of-four-3
-    word-of-four-requires
-    element-copy-out-word-of-four-4
-    word-of-four-requires-2
-    element-copy-out-t39
-    element-copy-out-t36
-    element-copy-out-t55
-    element-copy-out-t59
-    element-copy-out-t62
-    word-of-eight-requires
-    places-after-requires
+    opened-places-requires
     index-1-step12
     index-1-step12-2
     step12-requires
