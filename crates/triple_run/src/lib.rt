@@ -4,13 +4,14 @@ ghost use mathlib.Core.List.{[]};
 ghost use Prim.Native.Nat.{ℕ, _+_, _*_, _≤_, _<_};
 ghost use lib.ListN.{length, getD, set};
 ghost use lib.Seq.{paste};
-ghost use lib.IntN.{pos};
+ghost use lib.IntN.{pos, natAbs};
 ghost use Rattle.folds.specs.Range.{firstOutside};
 ghost use Rattle.kernel.specs.Kernels.{kernelCode};
 ghost use Rattle.windows.specs.Tables.{shapeTable, pathRows};
 ghost use Rattle.lane.specs.Lanes.{laneBits};
 ghost use Rattle.triple_run.specs.Groups.{Room, Groups, Loaded, KeptGroups, HeldGroups, ScoresOf};
-ghost use Rattle.triple_run.specs.Run.{TripleRun};
+ghost use Rattle.triple_run.specs.Run.{Inside, TripleRun};
+use pair_run::Pair;
 
 // What the values of each group pay, and its fold onto eight places.
 fn load_groups(
@@ -108,6 +109,32 @@ fn feed(word: [u16; 16], r: usize, planes: &mut [[u16; 16]; 16])
     }
 }
 
+// Row r of the two layers inside: a run over the scores of the outer kernels.
+fn inside(
+    inner: usize,
+    middle: usize,
+    found: &[i32; 256],
+    free: &[u16; 256],
+    given: &[u16; 256],
+    r: usize,
+    scores: &mut [i32],
+) -> Pair
+    requires { ⌜ (inner < 3) × (middle < 3) × (r < 16) × (256 * r + 256 ≤ length (now scores)) ⌝ }
+    requires { ⌜ ((i : ℕ) → i < 256 → natAbs (getD (now found) i (pos 0)) ≤ 2032) ⌝ }
+    ensures { λ q. ⌜ Inside inner middle (now (found .entry)) (now (free .entry)) (now (given .entry)) r (q .symbols) (q .planes) (now (scores .exit)) (now (scores .entry)) ⌝ }
+{
+    let within = lane_costs::value_costs(found);
+    pair_run::pair_run(
+        inner,
+        middle,
+        &within,
+        rows_at(free, r),
+        rows_at(given, r),
+        256 * r,
+        scores,
+    )
+}
+
 // At each row the outer kernels' scores are the values of a run of the two layers inside them, and the word of its symbols goes
 // back to them. A symbol is the sign of its score where it is free, else the one that is given.
 pub fn triple_run(
@@ -148,16 +175,7 @@ pub fn triple_run(
             &planes,
             &mut rows,
         );
-        let within = lane_costs::value_costs(&found);
-        let row = pair_run::pair_run(
-            inner,
-            middle,
-            &within,
-            rows_at(free, r),
-            rows_at(given, r),
-            256 * r,
-            scores,
-        );
+        let row = inside(inner, middle, &found, free, given, r, scores);
         let taken = row.symbols;
         put_rows(taken, r, &mut symbols);
         let own = row.planes;

@@ -99,61 +99,49 @@ small c =
     let q = c .before .before .before .before .before .before .before .before .before in
     found-small (getD (q .before .before .before .before .before .before .before .before .args .t1) 2 0) (q .before .load-groups .last .1 .0) (q .before .load-groups .last .1 .1 .0) (q .loop .inv .0 .1) (q .loop .planes) (q .loop .r) (c .stage .result) (c .stage .ensures .1 .1)
 
-value-costs-requires : tie.Need-value-costs-requires Inv-loop μ-loop
-value-costs-requires c κs = λ i h. omega (arith, small (c .before) i h)
-
-rows-at-requires : tie.Need-rows-at-requires Inv-loop μ-loop
-rows-at-requires c κs = search needs
-
-rows-at-requires-2 : tie.Need-rows-at-requires-2 Inv-loop μ-loop
-rows-at-requires-2 c κs = search needs
-
-mul-pair-run : tie.Need-mul-pair-run Inv-loop μ-loop
-mul-pair-run c = search needs
-
-pair-run-requires : tie.Need-pair-run-requires Inv-loop μ-loop
-pair-run-requires c κs =
-    let z = (c .before .before .before .before .before .before .before .before .before .before .before .before .before .before .before .before .before .before .before .before .before .before .before) in
-    (z .pre .0 0 (omega arith), z .pre .0 1 (omega arith), (c .before .before .before .before) .value-costs .ensures .1 2032 (small (c .before .before .before .before .before .before)), omega (arith, z .pre .1 .2, (c .before .before .before .before .before .before .before .before .before .before .before .before .before .before) .loop-test .taken, (c .before .before .before .before .before .before .before .before .before .before .before .before .before .before .before) .loop .inv .2))
+inside-requires : tie.Need-inside-requires Inv-loop μ-loop
+inside-requires c κs =
+    let q = c .before .before .before .before .before .before .before .before .before .before .before in
+    let z = q .before .before .before .before .before .before .before .before in
+    ((z .pre .0 0 (omega arith), z .pre .0 1 (omega arith), c .before .before .before .before .before .before .before .before .before .before .loop-test .taken, omega (arith, z .pre .1 .2, c .before .before .before .before .before .before .before .before .before .before .loop-test .taken, q .loop .inv .2)), small (c .before .before))
 
 put-rows-requires : tie.Need-put-rows-requires Inv-loop μ-loop
-put-rows-requires c κs = ((c .before .before .before .before .before .before .before .before .before .before .before .before .before .before .before .before .before .before) .loop-test .taken, (c .before .before .before .before .before .before .before .before .before .before .before .before .before .before .before .before .before .before .before) .loop .inv .1 .room)
+put-rows-requires c κs = ((c .before .before .before .before .before .before .before .before .before .before .before .before .before .before) .loop-test .taken, (c .before .before .before .before .before .before .before .before .before .before .before .before .before .before .before) .loop .inv .1 .room)
 
 column-sums-requires : tie.Need-column-sums-requires Inv-loop μ-loop
 column-sums-requires c κs = search needs
 
 feed-requires : tie.Need-feed-requires Inv-loop μ-loop
-feed-requires c κs = ((c .before .before .before .before .before .before .before .before .before .before .before .before .before .before .before .before .before .before .before .before .before .before) .loop-test .taken, (c .before .before .before .before .before .before .before .before .before .before .before .before .before .before .before .before .before .before .before .before .before .before .before) .loop .inv .1 .plane-room)
+feed-requires c κs = ((c .before .before .before .before .before .before .before .before .before .before .before .before .before .before .before .before .before .before) .loop-test .taken, (c .before .before .before .before .before .before .before .before .before .before .before .before .before .before .before .before .before .before .before) .loop .inv .1 .plane-room)
 
 add-r : tie.Need-add-r Inv-loop μ-loop
-add-r c = omega (arith, (c .before .before .before .before .before .before .before .before .before .before .before .before .before .before .before .before .before .before .before .before .before .before .before) .loop-test .taken)
+add-r c = omega (arith, (c .before .before .before .before .before .before .before .before .before .before .before .before .before .before .before .before .before .before .before) .loop-test .taken)
 
 loop-less : tie.Need-loop-less Inv-loop μ-loop
-loop-less c = omega (arith, (c .before .before .before .before .before .before .before .before .before .before .before .before .before .before .before .before .before .before .before .before .before .before .before) .loop-test .taken)
+loop-less c = omega (arith, (c .before .before .before .before .before .before .before .before .before .before .before .before .before .before .before .before .before .before .before) .loop-test .taken)
 
-row-long : (c : tie.After-pair-run Inv-loop μ-loop) → length (c .pair-run .result .symbols) ≡ 16
-row-long c = let h = c .pair-run .ok in search (needs, h)
+row-long : (c : tie.After-inside Inv-loop μ-loop) → length (c .inside .result .symbols) ≡ 16
+row-long c = let h = c .inside .ok in search (needs, h)
 
 loop-again : tie.Need-loop-again Inv-loop μ-loop
 loop-again c =
-    let q = (c .before .before .before .before .before .before .before .before .before .before .before .before .before .before .before .before .before .before .before .before .before .before .before .before) in
+    let q = (c .before .before .before .before .before .before .before .before .before .before .before .before .before .before .before .before .before .before .before .before) in
     let z = (q .before .before .before .before .before .before .before .before) in
     let a = z .args in
     let l = q .loop in
     let m = (q .before) .load-groups in
-    let lr : l .r < 16 = (c .before .before .before .before .before .before .before .before .before .before .before .before .before .before .before .before .before .before .before .before .before .before .before) .loop-test .taken in
-    let s = (c .before .before .before .before .before .before .before .before .before .before .before .before .before .before .before) .stage in
-    let w = (c .before .before .before .before .before .before .before .before .before .before .before .before .before) .value-costs in
-    let row = (c .before .before .before .before .before .before .before .before) .pair-run in
+    let lr : l .r < 16 = (c .before .before .before .before .before .before .before .before .before .before .before .before .before .before .before .before .before .before .before) .loop-test .taken in
+    let s = (c .before .before .before .before .before .before .before .before .before .before .before) .stage in
+    let row = (c .before .before .before .before .before .before .before .before) .inside in
     let lx : length (row .result .symbols) ≡ 16 = row-long (c .before .before .before .before .before .before .before .before) in
     let word = (c .before .before) .column-sums in (
       l .inv .0,
       row-next (getD (a .t1) 0 0 ∷ getD (a .t1) 1 0 ∷ getD (a .t1) 2 0 ∷ []) (a .values .now) (m .last .1 .0) (a .free .now) (a .given .now) (a .scores .now)
           (m .last .1 .1 .0) (l .inv .0) (z .pre .0 1 (omega arith)) (z .pre .1 .2)
           (l .r) (l .symbols) (l .planes) (l .rows) (l .scores) (l .inv .1) lr
-          (s .result) (s .ensures .1 .1) (w .result) (w .ensures .0)
-          ((c .before .before .before .before .before .before .before .before .before .before .before) .rows-at .result) ((c .before .before .before .before .before .before .before .before .before .before) .rows-at2 .result) ((c .before .before .before .before .before .before .before .before .before .before .before) .rows-at .ensures) ((c .before .before .before .before .before .before .before .before .before .before) .rows-at2 .ensures)
-          (row .result .symbols) (row .result .planes) lx _ (row .ensures)
+          (s .result) (s .ensures .1 .1) (row .ensures .costs) (row .ensures .costs-are)
+          (row .ensures .rowFree) (row .ensures .rowGiven) (row .ensures .free-are) (row .ensures .given-are)
+          (row .result .symbols) (row .result .planes) lx _ (row .ensures .ran)
           _ (c .feed .ensures .0) (λ i li. c .feed .ensures .1 i li ∙ ap (λ (t : List ℕ). set (getD (l .planes) i []) (l .r) (getD t i 0)) (word .ensures ∙ ap (λ t. columnSums t (row .result .planes)) ((q .before .before .before .before .before) .kernel-rows .ensures)))
           (s .last .1 .1 .1 .1 .1 .1 .1 .1 .0) (s .ensures .0) (s .ensures .1 .0)
           _ ((c .before .before .before .before) .put-rows .ensures),
@@ -195,11 +183,7 @@ triple-run-spec =
     mul-stage
     index-1-stage
     stage-requires
-    value-costs-requires
-    rows-at-requires
-    rows-at-requires-2
-    mul-pair-run
-    pair-run-requires
+    inside-requires
     put-rows-requires
     column-sums-requires
     feed-requires
