@@ -178,6 +178,26 @@ fn fresh_rows(
     out
 }
 
+// The scores of path w with symbol 0 and with symbol 1, found in a row of the phase before.
+fn again_at(
+    table: &[u16; 16],
+    symbols: u16,
+    phase: usize,
+    high: usize,
+    row: &[i32; 16],
+    w: usize,
+) -> Best
+    requires { ⌜ (phase ≤ high) × (high < 16) × (w < 2 ^ (high - phase)) ⌝ }
+    requires { ⌜ ((b : Bool) → pathWordOf (now table) symbols phase high b w < 16) ⌝ }
+    ensures { λ r. ⌜ (r .zero ≡ getD (now (row .entry)) (pathWordOf (now (table .entry)) symbols phase high false w) (pos 0)) × (r .one ≡ getD (now (row .entry)) (pathWordOf (now (table .entry)) symbols phase high true w) (pos 0)) ⌝ }
+{
+    let first = path_word(table, symbols, phase, w, high);
+    let second = with_own(first, table[phase]);
+    let zero = row[first as usize];
+    let one = row[second as usize];
+    Best { zero, one }
+}
+
 // The rows of a phase whose relations reach no further: each path was one of the phase before, in the row of
 // the symbol that was chosen.
 fn again_rows(
@@ -197,11 +217,11 @@ fn again_rows(
     let mut out = [[0i32; 16]; 2];
     let mut w: usize = 0;
     while w < paths {
-        let first = path_word(table, symbols, phase, w, high);
-        let zero = first as usize;
-        let one = with_own(first, table[phase]) as usize;
-        out[0][w] = rows[own][zero];
-        out[1][w] = rows[own][one];
+        let best = again_at(table, symbols, phase, high, &rows[own], w);
+        let zero = best.zero;
+        let one = best.one;
+        out[0][w] = zero;
+        out[1][w] = one;
         w += 1;
     }
     out
