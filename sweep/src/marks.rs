@@ -109,7 +109,8 @@ fn bench_cases(tally: &mut Tally) {
 }
 
 /// The values that the program `mark_cases` prints for an amplitude as Q of mark 0 and I of mark 127, all others 1.0.
-/// Its lines begin with "amplitude X:" for the scale 32, and with "scale S, amplitude X:" for others.
+/// Its lines begin with "amplitude X:" for the scale 32, and with "scale S, amplitude X:" for others; then come the request, with
+/// patterns for numbers, and its answer.
 fn mark_cases(tally: &mut Tally) {
     let text = match fs::read_to_string(MARK_CASES) {
         Ok(text) => text,
@@ -148,7 +149,10 @@ fn mark_line(tally: &mut Tally, line: &str, head: &str, (scale, amplitude): (&st
         return;
     }
     let (it, others) = (value(scale, amplitude), value(scale, ONE));
-    let want = format!("{head}: 0 0, values {others} {it} {others} {others} {it} {others}, kept");
+    let request =
+        format!("x{scale:x} 256 x{ONE:x} x{amplitude:x} 1 x{amplitude:x} 254 16 x0 x0 x0 300");
+    let values = format!("{others} {it} {others} {others} {it} {others}");
+    let want = format!("{head}: {request}: 0 0, values {values}, kept");
     tally.expect(
         line == want,
         format_args!("mark_cases prints {line}, not {want}"),
