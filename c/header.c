@@ -286,6 +286,19 @@ static void frame_follow(void)
             NOSPRIDDA_VALUE_OUT_OF_RANGE, 200, "frame follow, a value out of range");
 }
 
+/* A payload of one byte to the word that is expected, and back. The word is left for the caller. */
+static void there_and_back(struct nospridda_plan plan, const uint8_t *mask, size_t bytes, uint8_t symbol, uint8_t *word,
+                           const uint8_t *expected, const char *what)
+{
+    uint8_t payload = 0;
+
+    expect(nospridda_part_length(plan, mask, bytes, bytes) == 1, what);
+    outcome(nospridda_frame_encode(plan, mask, bytes, &symbol, 1, word, bytes), NOSPRIDDA_ACCEPTED, 0, what);
+    expect(memcmp(word, expected, bytes) == 0, what);
+    outcome(nospridda_frame_undo(plan, mask, bytes, word, bytes, &payload, 1), NOSPRIDDA_ACCEPTED, 0, what);
+    expect(payload == symbol, what);
+}
+
 /* One layer is the kernel by itself: symbol 10 of kernel 1, of sixteen, has the word 6ca0. What stands for the other layers is
  * no kernel. */
 static void one_layer(void)
@@ -303,18 +316,11 @@ static void one_layer(void)
     uint32_t penalties[SIXTEEN] = {0};
     size_t i;
 
-    expect(nospridda_part_length(plan, mask, sizeof mask, ONE_BYTES) == 1, "part length, one layer");
-    outcome(nospridda_frame_encode(plan, mask, sizeof mask, &symbol, 1, word, sizeof word), NOSPRIDDA_ACCEPTED, 0,
-            "frame encode, one layer");
-    expect(memcmp(word, expected, sizeof word) == 0, "the word of one layer");
-    outcome(nospridda_frame_undo(plan, mask, sizeof mask, word, sizeof word, &payload, 1), NOSPRIDDA_ACCEPTED, 0,
-            "frame undo, one layer");
-    expect(payload == symbol, "the payload of one layer");
+    there_and_back(plan, mask, sizeof mask, symbol, word, expected, "a word of one layer");
 
     for (i = 0; i < SIXTEEN; i++) {
         values[i] = word_bit(0x6ca0, i) ? -127 : 127;
     }
-    payload = 0;
     outcome(nospridda_frame_decode(plan, values, SIXTEEN, mask, sizeof mask, scores, SIXTEEN, penalties, SIXTEEN,
                                    &payload, 1),
             NOSPRIDDA_ACCEPTED, 0, "frame decode, one layer");
@@ -358,14 +364,7 @@ static void three_layers(void)
             set_bit(expected, i);
         }
     }
-    expect(nospridda_part_length(plan, mask, sizeof mask, MOST_BYTES) == 1, "part length, three layers");
-    outcome(nospridda_frame_encode(plan, mask, sizeof mask, &symbol, 1, word, sizeof word), NOSPRIDDA_ACCEPTED, 0,
-            "frame encode, three layers");
-    expect(memcmp(word, expected, sizeof word) == 0, "the word of three layers");
-    outcome(nospridda_frame_undo(plan, mask, sizeof mask, word, sizeof word, &payload, 1), NOSPRIDDA_ACCEPTED, 0,
-            "frame undo, three layers");
-    expect(payload == symbol, "the payload of three layers");
-    payload = 0;
+    there_and_back(plan, mask, sizeof mask, symbol, word, expected, "a word of three layers");
     outcome(nospridda_frame_decode(plan, values, MOST_SYMBOLS, mask, sizeof mask, scores, MOST_SYMBOLS, penalties,
                                    MOST_SYMBOLS, &payload, 1),
             NOSPRIDDA_ACCEPTED, 0, "frame decode, three layers");
