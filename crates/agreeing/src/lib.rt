@@ -1,4 +1,6 @@
 // The records of a list's paths: the best whose checksum agrees, and its payload.
+#![tactic(auto)]
+
 ghost use Rattle.std.specs.Prelude.{◌≡◌, ◌++◌, ◌*◌, ◌/◌, ◌≤◌, ◌<◌, length, drop};
 ghost use Rattle.bits.specs.Packed.{unpack};
 ghost use Rattle.answer.specs.Verdict.{verdict};

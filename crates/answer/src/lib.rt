@@ -1,9 +1,11 @@
 // The one answer of all jobs, and its number, place, word and penalty.
+#![tactic(auto)]
+
 ghost use Rattle.std.specs.Prelude.{◌≡◌};
 ghost use Rattle.answer.specs.Verdict.{verdict, is_accepted, number_of, place_of, word_of, penalty_of};
 
 // What a job answers: done, a word, a penalty, or the condition that refused it, with its place where it names one.
-#[derive(Drop)]
+#[derive(Clone, Copy)]
 pub enum Answer {
     Done,
     Word(u16),

@@ -1,1 +1,2 @@
 // Definitions and laws alone: bits, lists of bits and computed tests. No function runs.
+#![tactic(auto)]

@@ -1,4 +1,6 @@
 // Packed bits: eight to a byte, the lowest index in the most significant bit; sixteen to a u16 likewise.
+#![tactic(auto)]
+
 ghost use Rattle.std.specs.Prelude.{◌≡◌, true, ◌*◌, ◌<◌, length, set};
 ghost use Rattle.base.specs.Bit;
 ghost use Rattle.bits.specs.Packed.{bits, unpack};

@@ -1,8 +1,10 @@
 // A kernel's word a second time, bit by bit, for tests alone: it and its time are compared with the sum of whole rows.
+#![tactic(auto)]
+
 ghost use Rattle.std.specs.Prelude.{◌≡◌, ◌<◌};
 ghost use Rattle.base.specs.Bit;
 ghost use Rattle.bits.specs.Packed.{bits};
-ghost use Rattle.answer.specs.Verdict.{verdict, word_of};
+ghost use Rattle.answer.specs.Verdict.{verdict};
 ghost use Rattle.kernel.specs.Rows.{chosen_bit, row_sum};
 ghost use Rattle.kernel.specs.Jobs.{kernel_encode};
 
@@ -45,20 +47,4 @@ pub fn encode_by_bits(kernel: u8, symbols: u16) -> Answer
         return Answer::NoKernel;
     }
     Answer::Word(row_sum_by_bits(kernel::kernel_rows(kernel), symbols))
-}
-
-// The word of kernel encode, 0 if refused: by whole rows,
-#[unsafe(no_mangle)]
-pub extern "C" fn nospridda_test_word_by_rows(kernel: u8, symbols: u16) -> u16
-    ensures { result ≡ word_of (kernel_encode kernel symbols) }
-{
-    answer::word(kernel::kernel_encode(kernel, symbols))
-}
-
-// and bit by bit.
-#[unsafe(no_mangle)]
-pub extern "C" fn nospridda_test_word_by_bits(kernel: u8, symbols: u16) -> u16
-    ensures { result ≡ word_of (kernel_encode kernel symbols) }
-{
-    answer::word(encode_by_bits(kernel, symbols))
 }

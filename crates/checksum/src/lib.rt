@@ -1,4 +1,6 @@
 // The checksum of a payload: CRC-16, polynomial 1021 hexadecimal, start FFFF, most significant bit first, no final inversion.
+#![tactic(auto)]
+
 ghost use Rattle.std.specs.Prelude.{◌≡◌, ◌++◌, ◌≤◌, length};
 ghost use Rattle.bits.specs.Packed.{bits};
 ghost use Rattle.checksum.specs.Checksum.{shift_in, crc};

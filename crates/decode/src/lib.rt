@@ -1,4 +1,6 @@
 // Frame follow and frame decode: the run of a frame with its symbols given or decided.
+#![tactic(auto)]
+
 ghost use Rattle.std.specs.Prelude.{◌≡◌, false, ◌++◌, ◌*◌, ◌/◌, ◌≤◌, length, drop};
 ghost use Rattle.bits.specs.Packed.{unpack, pack};
 ghost use Rattle.payload.specs.Payload;

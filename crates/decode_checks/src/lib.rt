@@ -1,4 +1,6 @@
 // The checks of frame follow and frame decode, and the search for a value outside the range.
+#![tactic(auto)]
+
 ghost use Rattle.std.specs.Prelude.{◌≡◌, ◌≤◌, ltb, length};
 ghost use Rattle.folds.specs.Range.{first_outside};
 ghost use Rattle.answer.specs.Verdict.{verdict, done, settle};

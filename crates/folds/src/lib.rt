@@ -1,4 +1,6 @@
 // Costs of sixteen values, and the greatest of a row of best scores.
+#![tactic(auto)]
+
 ghost use Rattle.std.specs.Prelude.{◌≡◌, Bool, ℕ, ◌+◌, ◌-◌, ◌≤◌, ◌<◌, nat_abs, length};
 ghost use Rattle.polar.specs.Code.{channel};
 ghost use Rattle.folds.specs.Range.{first_outside};

@@ -1,4 +1,6 @@
 // Kernel follow: the scores of a kernel's symbols.
+#![tactic(auto)]
+
 ghost use Rattle.std.specs.Prelude.{◌≡◌, ◌≤◌, length};
 ghost use Rattle.std.proofs.Math.Seq.{paste};
 ghost use Rattle.answer.specs.Verdict.{verdict, done, settle};

@@ -1,9 +1,12 @@
 // Kernel follow at its edges, by both engines: the ends of the range, every refusal and which of two comes first, and the traps
 // of the paper. The requests are the lines of the input: the kernel, how many values, the room for scores, the symbols, and the
 // values.
+#![tactic(auto)]
+
 use answer::Answer;
-use libc::{STDIN_FILENO, STDOUT_FILENO};
 use report::rows;
+use std::io::BufRead;
+use std::{array, io};
 
 // What a buffer of twenty scores holds before a job: -901 to -920.
 fn before() -> [i32; 20] {
@@ -15,65 +18,53 @@ fn before() -> [i32; 20] {
 
 // Whether two buffers are of one length and agree from an index on.
 fn same_from(a: &[i32], b: &[i32], from: usize) -> bool {
-    if a.len() != b.len() {
-        return false;
-    }
-    let mut i = from;
-    while i < a.len() {
-        if a[i] != b[i] {
-            return false;
-        }
-        i += 1;
-    }
-    true
+    a.len() == b.len() && a.iter().zip(b).skip(from).all(|(x, y)| x == y)
 }
 
 // Whether the engines answer alike and leave the same.
-fn say_engines(a: Answer, b: Answer, scores: &[i32], second: &[i32]) {
+fn say_engines(
+    rt: &impl Print,
+    a: Answer,
+    b: Answer,
+    scores: &[i32],
+    second: &[i32],
+) -> io::Result<()> {
     if answer::number(a) != answer::number(b) {
-        io::write_all(STDOUT_FILENO, b" (the engines answer differently)");
+        print!(rt; " (the engines answer differently)")?;
     }
     if answer::place(a) != answer::place(b) {
-        io::write_all(STDOUT_FILENO, b" (the engines name different places)");
+        print!(rt; " (the engines name different places)")?;
     }
     if !same_from(scores, second, 0) {
-        io::write_all(STDOUT_FILENO, b" (the engines leave different scores)");
+        print!(rt; " (the engines leave different scores)")?;
     }
+    Ok(())
 }
 
-fn say_scores(scores: [i32; 20]) {
-    io::write_all(STDOUT_FILENO, b", scores");
-    let mut i: usize = 0;
-    while i < 16 {
-        report::say_score(scores[i]);
-        i += 1;
+fn say_scores(rt: &impl Print, scores: [i32; 20]) -> io::Result<()> {
+    print!(rt; ", scores")?;
+    for x in scores.iter().take(16) {
+        report::say_score(rt, *x)?;
     }
+    Ok(())
 }
 
 // Accepted the scores, and whether what lies past them stays; refused whether the buffer was kept.
-fn say_buffer(a: Answer, scores: [i32; 20]) {
-    let mut from: usize = 0;
+fn say_buffer(rt: &impl Print, a: Answer, scores: [i32; 20]) -> io::Result<()> {
+    let mut from = 0;
     if answer::accepted(a) {
-        say_scores(scores);
+        say_scores(rt, scores)?;
         from = 16;
     }
-    let kept = before();
-    report::say_kept(same_from(&scores, &kept, from));
+    report::say_kept(rt, same_from(&scores, &before(), from))
 }
 
 fn values_of(row: [u64; 32]) -> [i32; 17] {
-    let mut values = [0i32; 17];
-    let mut i: usize = 0;
-    while i < 17 {
-        let value = rows::signed(row[4 + i]);
-        values[i] = value;
-        i += 1;
-    }
-    values
+    array::from_fn(|i| rows::signed(row[4 + i]))
 }
 
 // The first n values, or all where there are fewer.
-fn front<'a>(s: &'a [i32], n: u64) -> &'a [i32] {
+fn front(s: &[i32], n: u64) -> &[i32] {
     let k = rows::at_most(s.len(), n);
     &s[..k]
 }
@@ -83,7 +74,7 @@ fn symbols_of(x: u64) -> u16 {
 }
 
 // Both engines on one request, each with a buffer of its own; the answer is the first one's.
-fn followed(line: &[u8], row: [u64; 32], values: &[i32]) {
+fn followed(rt: &impl Print, line: &[u8], row: [u64; 32], values: &[i32]) -> io::Result<()> {
     let mut scores = before();
     let mut second = before();
     let kernel = rows::byte(row[0]);
@@ -95,28 +86,20 @@ fn followed(line: &[u8], row: [u64; 32], values: &[i32]) {
         symbols,
         rows::room_i32(&mut second, row[2]),
     );
-    report::say_answer(line, a);
-    say_engines(a, b, &scores, &second);
-    say_buffer(a, scores);
+    report::say_answer(rt, line, a)?;
+    say_engines(rt, a, b, &scores, &second)?;
+    say_buffer(rt, a, scores)
 }
 
-fn run(line: &[u8]) {
+fn run(rt: &impl Print, line: &[u8]) -> io::Result<()> {
     let row = rows::numbers(line);
     let values = values_of(row);
-    followed(line, row, front(&values, row[1]));
+    followed(rt, line, row, front(&values, row[1]))
 }
 
-fn all_cases(text: &[u8]) {
-    let mut at: usize = 0;
-    while at < text.len() {
-        let end = rows::line_end(text, at);
-        run(&text[at..end]);
-        at = end + 1;
+fn main(rt: HostRuntime) -> io::Result<()> {
+    for line in rt.reader().split(rt.alloc(), b'\n') {
+        run(&rt, &line?)?;
     }
-}
-
-fn main() {
-    let mut text = io::large_buffer();
-    let n = io::read_full(STDIN_FILENO, &mut text);
-    all_cases(&text[..n]);
+    Ok(())
 }

@@ -1,4 +1,6 @@
 // Frame encode and frame undo.
+#![tactic(auto)]
+
 ghost use Rattle.std.specs.Prelude.{◌≡◌, true, false, ◌++◌, ◌-◌, ◌*◌, ◌^◌, ◌≤◌, length, drop};
 ghost use Rattle.bits.specs.Packed.{unpack};
 ghost use Rattle.payload.specs.Payload;

@@ -4,10 +4,13 @@
 // and buffer, and the two phases whose symbols are 1; 9999 in place of them stands for a text. Then 1 if the word to undo was made with
 // the first two kernels exchanged, 2 if the text is the word. A kernel's request has its number and a word, an information mask's the
 // number of bytes and the room.
+#![tactic(auto)]
+
 use answer::Answer;
-use libc::{STDIN_FILENO, STDOUT_FILENO};
 use plan::Plan;
 use report::rows;
+use std::io::BufRead;
+use std::{array, io};
 
 const TEXT: [u8; 12] = [78, 111, 115, 112, 114, 105, 100, 100, 97, 0, 255, 129];
 
@@ -18,48 +21,33 @@ const THIRDS: [u8; 3] = [36, 146, 73];
 // Byte i of the mask of a kind: it marks 0 none, 1 all, 2 the last 8 phases, 3 the last 12, 4 all but the first 8, 5 all but the first 4,
 // 6 every third phase or so. `left` bytes come after it.
 fn mask_byte(kind: u64, i: usize, left: usize) -> u8 {
-    if kind == 1 {
-        return 255;
+    match kind {
+        0 => 0,
+        1 => 255,
+        2 | 3 if left == 0 => 255,
+        3 if left == 1 => 15,
+        2 | 3 => 0,
+        4 | 5 if i > 0 => 255,
+        4 => 0,
+        5 => 15,
+        _ if left < 2 => 255,
+        _ => THIRDS[i % 3],
     }
-    if kind == 2 || kind == 3 {
-        if left == 0 {
-            return 255;
-        }
-        return if kind == 3 && left == 1 { 15 } else { 0 };
-    }
-    if kind == 4 || kind == 5 {
-        if i > 0 {
-            return 255;
-        }
-        return if kind == 5 { 15 } else { 0 };
-    }
-    if kind == 0 {
-        return 0;
-    }
-    if left < 2 { 255 } else { THIRDS[i % 3] }
 }
 
 // The mask of a kind and of n bytes.
 fn mask_of(kind: u64, n: u64) -> [u8; 513] {
     let mut out = [0u8; 513];
     let k = rows::at_most(513, n);
-    let mut i: usize = 0;
-    while i < k {
+    for i in 0..k {
         out[i] = mask_byte(kind, i, k - i - 1);
-        i += 1;
     }
     out
 }
 
 // The text, again and again.
 fn text_of() -> [u8; 513] {
-    let mut out = [0u8; 513];
-    let mut i: usize = 0;
-    while i < 513 {
-        out[i] = TEXT[i % 12];
-        i += 1;
-    }
-    out
+    array::from_fn(|i| TEXT[i % 12])
 }
 
 // Bits 1 at two places, or the text.
@@ -71,7 +59,7 @@ fn bits_of(a: u64, b: u64) -> [u8; 513] {
     let p = rows::at_most(4095, a);
     let q = rows::at_most(4095, b);
     out[p / 8] = POWERS[p % 8];
-    out[q / 8] = out[q / 8] ^ POWERS[q % 8];
+    out[q / 8] ^= POWERS[q % 8];
     out
 }
 
@@ -113,19 +101,18 @@ fn word_of(c: [u64; 32]) -> [u8; 513] {
 }
 
 // An answer, and the room where it is accepted, or whether the buffer was kept.
-fn say(line: &[u8], a: Answer, buffer: [u8; 516], room: u64) {
-    report::say_answer(line, a);
+fn say(rt: &impl Print, line: &[u8], a: Answer, buffer: [u8; 516], room: u64) -> io::Result<()> {
+    report::say_answer(rt, line, a)?;
     if answer::accepted(a) {
-        io::write_all(STDOUT_FILENO, b", ");
-        report::say_bytes(rows::front(&buffer, room));
-        io::write_all(STDOUT_FILENO, b"\n");
+        print!(rt; ", ")?;
+        report::say_bytes(rt, rows::front(&buffer, room))?;
+        println!(rt)
     } else {
-        let before = [0x5au8; 516];
-        report::say_kept(report::same_from(&buffer, &before, 0));
+        report::say_kept(rt, report::same_from(&buffer, &[0x5a; 516], 0))
     }
 }
 
-fn encode_case(line: &[u8], c: [u64; 32], mask: &[u8]) {
+fn encode_case(rt: &impl Print, line: &[u8], c: [u64; 32], mask: &[u8]) -> io::Result<()> {
     let payload = bits_of(c[8], c[9]);
     let mut word = [0x5au8; 516];
     let a = frame::frame_encode(
@@ -134,10 +121,10 @@ fn encode_case(line: &[u8], c: [u64; 32], mask: &[u8]) {
         rows::front(&payload, c[6]),
         rows::room(&mut word, c[7]),
     );
-    say(line, a, word, c[7]);
+    say(rt, line, a, word, c[7])
 }
 
-fn undo_case(line: &[u8], c: [u64; 32], mask: &[u8]) {
+fn undo_case(rt: &impl Print, line: &[u8], c: [u64; 32], mask: &[u8]) -> io::Result<()> {
     let word = word_of(c);
     let mut payload = [0x5au8; 516];
     let a = frame::frame_undo(
@@ -146,89 +133,68 @@ fn undo_case(line: &[u8], c: [u64; 32], mask: &[u8]) {
         rows::front(&word, c[6]),
         rows::room(&mut payload, c[7]),
     );
-    say(line, a, payload, c[7]);
+    say(rt, line, a, payload, c[7])
 }
 
 // A line and two numbers.
-fn say_two(line: &[u8], a: u64, b: u64) {
-    io::write_all(STDOUT_FILENO, line);
-    io::write_all(STDOUT_FILENO, b": ");
-    io::print_decimal(STDOUT_FILENO, a);
-    io::write_all(STDOUT_FILENO, b" ");
-    io::print_decimal(STDOUT_FILENO, b);
+fn say_two(rt: &impl Print, line: &[u8], a: u64, b: u64) -> io::Result<()> {
+    rt.write_all(line)?;
+    print!(rt; ": {a} {b}")
 }
 
 // The payload part: its length, twice, and its bytes.
-fn part_case(line: &[u8], c: [u64; 32], mask: &[u8]) {
+fn part_case(rt: &impl Print, line: &[u8], c: [u64; 32], mask: &[u8]) -> io::Result<()> {
     let bytes = [0xa5u8; 513];
     let lent = rows::front(&bytes, c[6]);
     let plan = plan_of(c[0], c[1], c[2], c[3]);
     let length = part::part_length(plan, mask, lent.len());
     let found = part::payload_part(plan, mask, lent);
-    say_two(line, length as u64, found.len() as u64);
-    io::write_all(STDOUT_FILENO, b", ");
-    report::say_bytes(found);
-    io::write_all(STDOUT_FILENO, b"\n");
+    say_two(rt, line, length as u64, found.len() as u64)?;
+    print!(rt; ", ")?;
+    report::say_bytes(rt, found)?;
+    println!(rt)
 }
 
-fn frame_case(line: &[u8], c: [u64; 32]) {
-    let mask = mask_of(c[4], c[5]);
-    let job = rows::first(line);
-    if job == b'e' {
-        encode_case(line, c, rows::front(&mask, c[5]));
-    }
-    if job == b'u' {
-        undo_case(line, c, rows::front(&mask, c[5]));
-    }
-    if job == b'p' {
-        part_case(line, c, rows::front(&mask, c[5]));
+fn frame_case(rt: &impl Print, line: &[u8], c: [u64; 32]) -> io::Result<()> {
+    let bytes = mask_of(c[4], c[5]);
+    let mask = rows::front(&bytes, c[5]);
+    match rows::first(line) {
+        b'e' => encode_case(rt, line, c, mask),
+        b'u' => undo_case(rt, line, c, mask),
+        b'p' => part_case(rt, line, c, mask),
+        _ => Ok(()),
     }
 }
 
 // The word of some symbols and the symbols of the same word, by a kernel: frames of one layer are kernels.
-fn kernel_case(line: &[u8], c: [u64; 32]) {
+fn kernel_case(rt: &impl Print, line: &[u8], c: [u64; 32]) -> io::Result<()> {
     let kernel = rows::byte(c[0]);
     let word = (c[1] % 65536) as u16;
-    say_two(
-        line,
-        answer::word(kernel::kernel_encode(kernel, word)) as u64,
-        answer::word(kernel::kernel_undo(kernel, word)) as u64,
-    );
-    io::write_all(STDOUT_FILENO, b"\n");
+    let encoded = answer::word(kernel::kernel_encode(kernel, word));
+    let undone = answer::word(kernel::kernel_undo(kernel, word));
+    say_two(rt, line, u64::from(encoded), u64::from(undone))?;
+    println!(rt)
 }
 
-fn information_case(line: &[u8], c: [u64; 32]) {
+fn information_case(rt: &impl Print, line: &[u8], c: [u64; 32]) -> io::Result<()> {
     let mut mask = [0x5au8; 516];
     let p = rows::at_most(9999, c[0]);
     let a = order::information_mask(p, rows::room(&mut mask, c[1]));
-    say(line, a, mask, c[1]);
+    say(rt, line, a, mask, c[1])
 }
 
-fn run(line: &[u8]) {
+fn run(rt: &impl Print, line: &[u8]) -> io::Result<()> {
     let c = rows::numbers(line);
-    let job = rows::first(line);
-    if job == b'k' {
-        kernel_case(line, c);
-        return;
-    }
-    if job == b'i' {
-        information_case(line, c);
-        return;
-    }
-    frame_case(line, c);
-}
-
-fn all_cases(text: &[u8]) {
-    let mut at: usize = 0;
-    while at < text.len() {
-        let end = rows::line_end(text, at);
-        run(&text[at..end]);
-        at = end + 1;
+    match rows::first(line) {
+        b'k' => kernel_case(rt, line, c),
+        b'i' => information_case(rt, line, c),
+        _ => frame_case(rt, line, c),
     }
 }
 
-fn main() {
-    let mut text = io::large_buffer();
-    let n = io::read_full(STDIN_FILENO, &mut text);
-    all_cases(&text[..n]);
+fn main(rt: HostRuntime) -> io::Result<()> {
+    for line in rt.reader().split(rt.alloc(), b'\n') {
+        run(&rt, &line?)?;
+    }
+    Ok(())
 }

@@ -1,4 +1,6 @@
 // The checks of frame encode, and those of frame undo that do not look at the word's symbols.
+#![tactic(auto)]
+
 ghost use Rattle.std.specs.Prelude.{◌≡◌};
 ghost use Rattle.answer.specs.Verdict.{verdict, done, settle};
 ghost use Rattle.frame_checks.specs.Checks.{encode_checks, request_checks};

@@ -1,4 +1,6 @@
 // The run of a frame of any number of layers: symbols and scores, and penalties added up from what the phases pay.
+#![tactic(auto)]
+
 ghost use Rattle.std.specs.Prelude.{◌≡◌, ℕ, ◌^◌, ◌≤◌, ◌<◌, pos, length, get_or};
 ghost use Rattle.folds.specs.Range.{first_outside};
 ghost use Rattle.frame_run.specs.Run.{Ready, Scored, FrameRun};

@@ -1,4 +1,6 @@
 // The fast Hadamard transform of four values and of eight.
+#![tactic(auto)]
+
 ghost use Rattle.std.specs.Prelude.{◌≡◌, [], ℕ, ◌+◌, ◌<◌, pos, get_or};
 ghost use Rattle.values.specs.Value.{Small};
 ghost use Rattle.hadamard.specs.Transform.{transform};

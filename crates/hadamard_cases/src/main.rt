@@ -1,5 +1,7 @@
 // The Hadamard transform on unit values, on equal values and at its largest sums.
-use libc::STDOUT_FILENO;
+#![tactic(auto)]
+
+use std::io;
 
 // One at a place, and 0 elsewhere.
 const UNITS: [[i32; 8]; 8] = [
@@ -21,65 +23,58 @@ const SIGNS_OF_5: [i32; 8] = [32767, -32767, 32767, -32767, -32767, 32767, -3276
 // The signs of place 2 of four.
 const SIGNS_OF_2: [i32; 4] = [32767, 32767, -32767, -32767];
 
-fn say_four(row: [i32; 4]) {
-    let mut i: usize = 0;
-    while i < 4 {
-        report::say_score(row[i]);
-        i += 1;
+fn say_four(rt: &impl Print, row: [i32; 4]) -> io::Result<()> {
+    for x in row {
+        report::say_score(rt, x)?;
     }
+    Ok(())
 }
 
 // The transform of eight values within the limit.
-fn eight(label: &[u8], values: [i32; 8]) {
-    io::write_all(STDOUT_FILENO, label);
+fn eight(rt: &impl Print, label: &str, values: [i32; 8]) -> io::Result<()> {
     if folds::first_outside(&values, 32767) < 8 {
-        io::write_all(STDOUT_FILENO, b": a value out of range\n");
-        return;
+        return println!(rt; "{label}: a value out of range");
     }
     let rows = hadamard::hadamard8(&values);
-    io::write_all(STDOUT_FILENO, b":");
-    say_four(rows[0]);
-    say_four(rows[1]);
-    io::write_all(STDOUT_FILENO, b"\n");
+    print!(rt; "{label}:")?;
+    say_four(rt, rows[0])?;
+    say_four(rt, rows[1])?;
+    println!(rt)
 }
 
 // The transform of four.
-fn four(label: &[u8], values: [i32; 4]) {
-    io::write_all(STDOUT_FILENO, label);
+fn four(rt: &impl Print, label: &str, values: [i32; 4]) -> io::Result<()> {
     if folds::first_outside(&values, 32767) < 4 {
-        io::write_all(STDOUT_FILENO, b": a value out of range\n");
-        return;
+        return println!(rt; "{label}: a value out of range");
     }
     let row = hadamard::hadamard4(&values);
-    io::write_all(STDOUT_FILENO, b":");
-    say_four(row);
-    io::write_all(STDOUT_FILENO, b"\n");
+    print!(rt; "{label}:")?;
+    say_four(rt, row)?;
+    println!(rt)
 }
 
-fn units() {
-    let mut i: usize = 0;
-    while i < 8 {
-        eight(b"eight, a unit", UNITS[i]);
-        i += 1;
+fn units(rt: &impl Print) -> io::Result<()> {
+    for unit in UNITS {
+        eight(rt, "eight, a unit", unit)?;
     }
+    Ok(())
 }
 
-fn small_units() {
-    let mut i: usize = 0;
-    while i < 4 {
-        four(b"four, a unit", SMALL_UNITS[i]);
-        i += 1;
+fn small_units(rt: &impl Print) -> io::Result<()> {
+    for unit in SMALL_UNITS {
+        four(rt, "four, a unit", unit)?;
     }
+    Ok(())
 }
 
-fn main() {
-    units();
-    small_units();
-    eight(b"eight, all 1", [1i32; 8]);
-    four(b"four, all 1", [1i32; 4]);
-    eight(b"eight, all 32767", [32767i32; 8]);
-    eight(b"eight, all -32767", [-32767i32; 8]);
-    eight(b"eight, the signs of place 5", SIGNS_OF_5);
-    four(b"four, all 32767", [32767i32; 4]);
-    four(b"four, the signs of place 2", SIGNS_OF_2);
+fn main(rt: HostRuntime) -> io::Result<()> {
+    units(&rt)?;
+    small_units(&rt)?;
+    eight(&rt, "eight, all 1", [1; 8])?;
+    four(&rt, "four, all 1", [1; 4])?;
+    eight(&rt, "eight, all 32767", [32767; 8])?;
+    eight(&rt, "eight, all -32767", [-32767; 8])?;
+    eight(&rt, "eight, the signs of place 5", SIGNS_OF_5)?;
+    four(&rt, "four, all 32767", [32767; 4])?;
+    four(&rt, "four, the signs of place 2", SIGNS_OF_2)
 }

@@ -1,4 +1,6 @@
 // One run of a kernel straight through its phases: by the kernel's number, and as frames take it, with packed symbols.
+#![tactic(auto)]
+
 ghost use Rattle.std.specs.Prelude.{◌≡◌, ◌<◌, length};
 ghost use Rattle.base.specs.Bit.{bit, tabulate};
 ghost use Rattle.bits.specs.Packed.{bits};

@@ -1,4 +1,6 @@
 // The three kernels: encode and undo, by sums of whole rows of constant tables.
+#![tactic(auto)]
+
 ghost use Rattle.std.specs.Prelude.{◌≡◌, [], ◌<◌, get_or};
 ghost use Rattle.answer.specs.Verdict.{verdict};
 ghost use Rattle.kernel.specs.Rows.{row_sum, table, inverse_table};

@@ -1,4 +1,6 @@
 // One lane of sixteen kernels side by side: its bit in a plane, and the folds of its places.
+#![tactic(auto)]
+
 ghost use Rattle.std.specs.Prelude.{◌≡◌, true, false, ℕ, ◌+◌, ◌≤◌, ◌<◌, min, get_or};
 ghost use Rattle.folds.specs.Rows.{select, cell};
 ghost use Rattle.lane.specs.Lanes.{lane_bits, lane_bit};
@@ -21,7 +23,7 @@ pub fn has(plane: u16, bit: u16) -> bool
 }
 
 // What a place pays for bit 0 and for bit 1, in one lane.
-#[derive(Drop)]
+#[derive(Clone, Copy)]
 pub struct Pair {
     pub zero: u16,
     pub one: u16,

@@ -1,4 +1,6 @@
 // What the values of sixteen kernels side by side pay, a lane for each kernel.
+#![tactic(auto)]
+
 ghost use Rattle.std.specs.Prelude.{◌≡◌, Bool, true, false, ℕ, ◌+◌, ◌*◌, ◌≤◌, ◌<◌, pos, nat_abs, length, get_or};
 ghost use Rattle.polar.specs.Code.{pay, channel};
 ghost use Rattle.folds.specs.Range.{first_outside};

@@ -1,5 +1,7 @@
 // Sixteen places of sixteen kernels side by side folded onto eight, in all lanes at once. A loop of lanes has exactly sixteen
 // turns and no branch, and the compiler makes vectors of it.
+#![tactic(auto)]
+
 ghost use Rattle.std.specs.Prelude.{◌≡◌, Bool, true, false, not, ℕ, ◌+◌, ◌<◌, min, length};
 ghost use Rattle.base.specs.Bit.{◌⊕◌};
 ghost use Rattle.polar.specs.Fold.{free_fold, known_fold};

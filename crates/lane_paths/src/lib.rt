@@ -1,4 +1,6 @@
 // The least totals of a path in sixteen kernels side by side, folded from eight places in all lanes at once.
+#![tactic(auto)]
+
 ghost use Rattle.std.specs.Prelude.{◌≡◌, Bool, true, false, ℕ, ◌+◌, ◌*◌, ◌/◌, ◌%◌, ◌≤◌, ◌<◌, get_or};
 ghost use Rattle.base.specs.Bit;
 ghost use Rattle.base.specs.Bit.{◌⊕◌};

@@ -1,4 +1,6 @@
 // Rows of sixteen kernels side by side, by path, symbol and lane: the ones that symbols keep, and the scores.
+#![tactic(auto)]
+
 ghost use Rattle.std.specs.Prelude.{◌≡◌, Bool, true, false, [], ℕ, ◌+◌, ◌-◌, ◌%◌, ◌≤◌, ◌<◌, min, pos, get_or};
 ghost use Rattle.std.specs.Int.Bits.{bit_xor};
 ghost use Rattle.std.proofs.Math.IntN.{sub_ℕ};

@@ -2,7 +2,6 @@
 use Rattle.std.specs.Prelude.{◌≡◌, Bool, false, ◌&&◌, List, ℕ, ◌+◌, ◌-◌, ◌*◌, ◌/◌, ◌%◌, ◌<◌, leb}
 use Rattle.base.specs.Bit.{◌⊕◌}
 use Rattle.bits.specs.Packed.{bits}
-use Rattle.polar.specs.Code.{Costs}
 use Rattle.polar.specs.Fold.{free_fold, folded}
 use Rattle.kernel.specs.Rows.{row_sum}
 use Rattle.windows.specs.Paths.{choice_number}

@@ -1,5 +1,7 @@
 // One phase of sixteen kernels side by side: the least totals of all paths in each lane, from those of the phase before or folded
 // anew. Between two phases it needs the values, the planes of the symbols and these rows.
+#![tactic(auto)]
+
 ghost use Rattle.std.specs.Prelude.{◌≡◌, Bool, [], ℕ, ◌-◌, ◌*◌, ◌^◌, ◌≤◌, ◌<◌, pos, length, get_or};
 ghost use Rattle.polar.specs.Code.{score};
 ghost use Rattle.folds.specs.Rows.{cell};

@@ -1,5 +1,7 @@
 // The least totals of a phase of sixteen kernels side by side, lane by lane. A lane that lacks the rows of the phase before, where
 // these are asked for, gets no totals, and the others get theirs.
+#![tactic(auto)]
+
 ghost use Rattle.std.specs.Prelude.{◌≡◌, true, false, [], ℕ, ◌-◌, ◌^◌, ◌≤◌, ◌<◌, length, get_or};
 ghost use Rattle.windows.specs.Tables.{shape_table, shape_at};
 ghost use Rattle.lane.specs.Lanes.{LanesWithin};

@@ -1,4 +1,6 @@
 // The words of sixteen kernels as planes: plane j has bit j of each kernel's word.
+#![tactic(auto)]
+
 ghost use Rattle.std.specs.Prelude.{◌≡◌, ◌&&◌, ℕ, ◌+◌, ◌≤◌, ◌<◌, get_or};
 ghost use Rattle.base.specs.Bit;
 ghost use Rattle.base.specs.Bit.{◌⊕◌};

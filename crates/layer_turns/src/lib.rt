@@ -1,1 +1,2 @@
 // Laws alone: a run of two stages goes on by a run of its inner code.
+#![tactic(auto)]

@@ -1,4 +1,6 @@
 // What `linkline` prints, from all that it reads: one function from the bytes of the input to a buffer.
+#![tactic(auto)]
+
 ghost use Rattle.std.specs.Prelude.{◌≡◌, ◌++◌, map, ◌≤◌, ◌<◌, length, drop};
 ghost use Rattle.answer.specs.Verdict.{verdict, number_of, place_of};
 ghost use Rattle.text.specs.Put.{Put};

@@ -2,8 +2,11 @@
 // places that are named, and k = 256. The buffer holds 5a before. The requests are the lines of the input: how many bytes,
 // the two kernels, the byte that the mask has (256: it is that of one byte), the byte that the values have, and two bytes more,
 // each after its place.
-use libc::{STDIN_FILENO, STDOUT_FILENO};
+#![tactic(auto)]
+
 use report::rows;
+use std::io;
+use std::io::BufRead;
 
 // The information mask of one byte.
 const MASK_1: [u8; 32] = [
@@ -13,25 +16,17 @@ const MASK_1: [u8; 32] = [
 
 // Whether all bytes from an index on are 5a.
 fn kept(out: &[u8; 74], from: usize) -> bool {
-    let mut i = from;
-    while i < 74 {
-        if out[i] != 0x5a {
-            return false;
-        }
-        i += 1;
-    }
-    true
+    out.iter().skip(from).all(|x| *x == 0x5a)
 }
 
 // A label, how many bytes are printed, whether what lies past them stays, and the bytes.
-fn say(label: &[u8], input: &[u8]) {
+fn say(rt: &impl Print, label: &[u8], input: &[u8]) -> io::Result<()> {
     let mut out = [0x5au8; 74];
     let k = line::line(input, &mut out);
-    io::write_all(STDOUT_FILENO, label);
-    io::write_all(STDOUT_FILENO, b": ");
-    io::print_decimal(STDOUT_FILENO, k as u64);
-    report::say_kept(kept(&out, k));
-    io::write_all(STDOUT_FILENO, &out[..k]);
+    rt.write_all(label)?;
+    print!(rt; ": {k}")?;
+    report::say_kept(rt, kept(&out, k))?;
+    rt.write_all(&out[..k])
 }
 
 fn mask_of(kind: u64) -> [u8; 32] {
@@ -44,35 +39,23 @@ fn mask_of(kind: u64) -> [u8; 32] {
 // An input of alike value bytes with a mask.
 fn masked(byte: u8, mask: [u8; 32]) -> [u8; 291] {
     let mut input = [byte; 291];
-    let mut i: usize = 0;
-    while i < 32 {
-        input[2 + i] = mask[i];
-        i += 1;
-    }
+    input[2..34].copy_from_slice(&mask);
     input
 }
 
-fn run(line: &[u8]) {
+fn run(rt: &impl Print, line: &[u8]) -> io::Result<()> {
     let c = rows::numbers(line);
     let mut input = masked(rows::byte(c[4]), mask_of(c[3]));
     input[0] = rows::byte(c[1]);
     input[1] = rows::byte(c[2]);
     input[rows::at_most(290, c[5])] = rows::byte(c[6]);
     input[rows::at_most(290, c[7])] = rows::byte(c[8]);
-    say(line, rows::front(&input, c[0]));
+    say(rt, line, rows::front(&input, c[0]))
 }
 
-fn all_cases(text: &[u8]) {
-    let mut at: usize = 0;
-    while at < text.len() {
-        let end = rows::line_end(text, at);
-        run(&text[at..end]);
-        at = end + 1;
+fn main(rt: HostRuntime) -> io::Result<()> {
+    for line in rt.reader().split(rt.alloc(), b'\n') {
+        run(&rt, &line?)?;
     }
-}
-
-fn main() {
-    let mut text = io::large_buffer();
-    let n = io::read_full(STDIN_FILENO, &mut text);
-    all_cases(&text[..n]);
+    Ok(())
 }

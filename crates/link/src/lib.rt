@@ -1,4 +1,6 @@
 // The C interface: each job under its C name, answering with a number, a place and, for some, a word or a penalty.
+#![tactic(auto)]
+
 ghost use Rattle.std.specs.Prelude.{◌≡◌};
 ghost use Rattle.answer.specs.Verdict.{verdict};
 ghost use Rattle.kernel.specs.Jobs.{kernel_encode, kernel_undo};
@@ -16,7 +18,7 @@ use plan::Plan;
 
 // The outcome of a job without a word or a penalty: the number of the condition that refused it, 0 if accepted, and the place that it names.
 #[repr(C)]
-#[derive(Drop)]
+#[derive(Clone, Copy)]
 pub struct Outcome {
     pub number: u32,
     pub place: usize,
@@ -24,7 +26,7 @@ pub struct Outcome {
 
 // The outcome of a job with a word, 0 if refused.
 #[repr(C)]
-#[derive(Drop)]
+#[derive(Clone, Copy)]
 pub struct WordOutcome {
     pub number: u32,
     pub place: usize,
@@ -33,7 +35,7 @@ pub struct WordOutcome {
 
 // The outcome of a job with a penalty, 0 if refused.
 #[repr(C)]
-#[derive(Drop)]
+#[derive(Clone, Copy)]
 pub struct PenaltyOutcome {
     pub number: u32,
     pub place: usize,

@@ -2,12 +2,15 @@
 // first, the places that are named, and what lies past the written parts. Scratch holds a5 and payload 5a before a job. The requests are the
 // lines of the input: the layers, the three kernels, the list size, the word that was heard, its blank places, the mask, whether two values
 // lie outside, how many values and bytes of the mask there are, and the room in scratch and payload. Words and masks are numbers in `WORDS`.
+#![tactic(auto)]
+
 ghost use Rattle.std.specs.Prelude.{◌≡◌, ◌<◌, length};
 
 use answer::Answer;
-use libc::{STDIN_FILENO, STDOUT_FILENO};
 use plan::Plan;
 use report::rows;
+use std::io;
+use std::io::BufRead;
 
 // The masks and words of the cases, by number.
 const WORDS: [[u64; 4]; 21] = [
@@ -138,28 +141,26 @@ fn byte_of(w: u64, j: usize) -> u8
 // The bytes of a word, and one more.
 fn bytes_of(words: [u64; 4]) -> [u8; 33] {
     let mut out = [0u8; 33];
-    let mut i: usize = 0;
-    while i < 32 {
+    for i in 0..32 {
         out[i] = byte_of(words[i / 8], i % 8);
-        i += 1;
     }
     out
 }
 
 // The value of place i: 0 where it is blank.
 fn value_at(heard: &[u8], blank: &[u8], i: usize) -> i8
-    requires { (i < 256) × (length heard.now ≡ 33) × (length blank.now ≡ 33) }
+    requires place { i < 256 }
+    requires heard { length heard.now ≡ 33 }
+    requires blank { length blank.now ≡ 33 }
 {
-    let high = HIGH;
-    let low = LOW;
     let k = (5 * i + i / 16) % 16;
     if bits::bit(blank, i) {
         return 0;
     }
     if bits::bit(heard, i) {
-        return low[k];
+        return LOW[k];
     }
-    high[k]
+    HIGH[k]
 }
 
 // The values of a word and one more, and -128 at two places where they lie outside.
@@ -167,11 +168,8 @@ fn values_of(heard: [u64; 4], blank: [u64; 4], outside: u64) -> [i8; 257] {
     let h = bytes_of(heard);
     let b = bytes_of(blank);
     let mut values = [0i8; 257];
-    let mut i: usize = 0;
-    while i < 256 {
-        let value = value_at(&h, &b, i);
-        values[i] = value;
-        i += 1;
+    for i in 0..256 {
+        values[i] = value_at(&h, &b, i);
     }
     if outside == 1 {
         values[30] = -128;
@@ -182,57 +180,55 @@ fn values_of(heard: [u64; 4], blank: [u64; 4], outside: u64) -> [i8; 257] {
 
 // The first index from `from` on where a buffer has another byte than x, or its length.
 fn run_of(s: &[u8], from: usize, x: u8) -> usize {
-    let mut i = from;
-    while i < s.len() {
-        if s[i] != x {
-            return i;
-        }
-        i += 1;
-    }
-    i
+    s.iter()
+        .skip(from)
+        .position(|y| *y != x)
+        .map_or(s.len(), |n| from + n)
 }
 
 // Whether scratch was kept, or cleared in its first 8,192 bytes and kept past them.
-fn say_scratch(scratch: &[u8]) {
+fn say_scratch(rt: &impl Print, scratch: &[u8]) -> io::Result<()> {
     if run_of(scratch, 0, 0xa5) == scratch.len() {
-        io::write_all(STDOUT_FILENO, b", scratch kept");
+        print!(rt; ", scratch kept")
+    } else if run_of(scratch, 0, 0) == 8192 && run_of(scratch, 8192, 0xa5) == scratch.len() {
+        print!(rt; ", scratch cleared")
     } else {
-        if run_of(scratch, 0, 0) == 8192 && run_of(scratch, 8192, 0xa5) == scratch.len() {
-            io::write_all(STDOUT_FILENO, b", scratch cleared");
-        } else {
-            io::write_all(STDOUT_FILENO, b", scratch changed");
-        }
+        print!(rt; ", scratch changed")
     }
 }
 
 // An answer with its penalty, and the buffers after it.
-fn say(label: &[u8], a: Answer, scratch: &[u8], payload: &[u8]) {
-    report::say_answer(label, a);
-    io::write_all(STDOUT_FILENO, b", penalty ");
-    io::print_decimal(STDOUT_FILENO, answer::penalty(a) as u64);
-    say_scratch(scratch);
-    io::write_all(STDOUT_FILENO, b"\n  payload ");
-    report::say_bytes(payload);
-    io::write_all(STDOUT_FILENO, b"\n");
+fn say(rt: &impl Print, label: &[u8], a: Answer, scratch: &[u8], payload: &[u8]) -> io::Result<()> {
+    report::say_answer(rt, label, a)?;
+    say_penalty(rt, answer::penalty(a))?;
+    say_scratch(rt, scratch)?;
+    print!(rt; "\n  payload ")?;
+    report::say_bytes(rt, payload)?;
+    println!(rt)
 }
 
-fn say_penalty(x: u32) {
-    io::write_all(STDOUT_FILENO, b", penalty ");
-    io::print_decimal(STDOUT_FILENO, x as u64);
+fn say_penalty(rt: &impl Print, x: u32) -> io::Result<()> {
+    print!(rt; ", penalty {x}")
 }
 
 // Frame decode beside a list of one: its last penalty, and whether its payload is the same.
-fn beside(plan: Plan, values: &[i8], mask: &[u8], payload: &[u8]) {
+fn beside(
+    rt: &impl Print,
+    plan: Plan,
+    values: &[i8],
+    mask: &[u8],
+    payload: &[u8],
+) -> io::Result<()> {
     let mut scores = [0i32; 256];
     let mut penalties = [0u32; 256];
     let mut other = [0x5au8; 36];
     let b = decode::frame_decode(plan, values, mask, &mut scores, &mut penalties, &mut other);
-    report::say_answer(b"  frame decode", b);
-    say_penalty(penalties[255]);
+    report::say_answer(rt, b"  frame decode", b)?;
+    say_penalty(rt, penalties[255])?;
     if report::same_from(payload, &other, 0) {
-        io::write_all(STDOUT_FILENO, b", same payload\n");
+        println!(rt; ", same payload")
     } else {
-        io::write_all(STDOUT_FILENO, b", another payload\n");
+        println!(rt; ", another payload")
     }
 }
 
@@ -249,7 +245,13 @@ fn word_of(n: u64) -> [u64; 4] {
 }
 
 // One job with as much of the buffers as it asks for, what it answers and what it leaves.
-fn decoded(line: &[u8], row: [u64; 32], values: &[i8], mask: &[u8]) {
+fn decoded(
+    rt: &impl Print,
+    line: &[u8],
+    row: [u64; 32],
+    values: &[i8],
+    mask: &[u8],
+) -> io::Result<()> {
     let mut scratch = [0xa5u8; 8200];
     let mut payload = [0x5au8; 36];
     let plan = plan_of(row);
@@ -263,35 +265,29 @@ fn decoded(line: &[u8], row: [u64; 32], values: &[i8], mask: &[u8]) {
         rows::room(&mut payload, row[12]),
     );
     let left = rows::front(&payload, row[12]);
-    say(line, a, rows::front(&scratch, row[11]), left);
+    say(rt, line, a, rows::front(&scratch, row[11]), left)?;
     if list == 1 {
-        beside(plan, values, mask, left);
+        beside(rt, plan, values, mask, left)?;
     }
+    Ok(())
 }
 
-fn run(line: &[u8]) {
+fn run(rt: &impl Print, line: &[u8]) -> io::Result<()> {
     let row = rows::numbers(line);
     let values = values_of(word_of(row[5]), word_of(row[6]), row[8]);
     let mask = bytes_of(word_of(row[7]));
     decoded(
+        rt,
         line,
         row,
         rows::front_values(&values, row[9]),
         rows::front(&mask, row[10]),
-    );
+    )
 }
 
-fn all_cases(text: &[u8]) {
-    let mut at: usize = 0;
-    while at < text.len() {
-        let end = rows::line_end(text, at);
-        run(&text[at..end]);
-        at = end + 1;
+fn main(rt: HostRuntime) -> io::Result<()> {
+    for line in rt.reader().split(rt.alloc(), b'\n') {
+        run(&rt, &line?)?;
     }
-}
-
-fn main() {
-    let mut text = io::large_buffer();
-    let n = io::read_full(STDIN_FILENO, &mut text);
-    all_cases(&text[..n]);
+    Ok(())
 }

@@ -1,4 +1,6 @@
 // List decoding with a checksum: the final paths, and the payload of the best one whose checksum agrees.
+#![tactic(auto)]
+
 ghost use Rattle.std.specs.Prelude.{◌≡◌};
 ghost use Rattle.answer.specs.Verdict.{verdict};
 ghost use Rattle.list_decode.specs.Jobs.{list_decode};

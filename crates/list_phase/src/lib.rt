@@ -1,4 +1,6 @@
 // The next list of paths, in the records: after a marked phase the chosen candidates, after unmarked phases the same paths.
+#![tactic(auto)]
+
 ghost use Rattle.std.specs.Prelude.{◌≡◌, ℕ, ◌≤◌, ◌<◌, length, drop, get_or};
 ghost use Rattle.path.specs.Path.{path_at};
 ghost use Rattle.list_phase.specs.Next.{Candidate, Frozen, no_path};

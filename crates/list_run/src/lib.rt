@@ -1,5 +1,7 @@
 // The run of a list of paths over a frame: row after row, the outer kernels of each path, and the inner kernels of all paths over
 // their least totals. Between two phases the paths stand in the records of the scratch bytes.
+#![tactic(auto)]
+
 ghost use Rattle.std.specs.Prelude.{◌≡◌, Bool, List, [], ℕ, ◌+◌, ◌*◌, ◌≤◌, ◌<◌, length, get_or, drop, set, true, false};
 ghost use Rattle.base.specs.Bit;
 ghost use Rattle.bits.specs.Packed.{bits};

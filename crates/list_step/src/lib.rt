@@ -1,4 +1,6 @@
 // One phase of a row for all paths of the list: the least totals of the inner kernel on each path, and the paths that stay.
+#![tactic(auto)]
+
 ghost use Rattle.std.specs.Prelude.{◌≡◌, Bool, true, false, [], ◌∷◌, ◌++◌, ℕ, ◌+◌, ◌*◌, ◌/◌, ◌%◌, ◌≤◌, ◌<◌, min, length, get_or, drop};
 ghost use Rattle.bits.specs.Packed.{bits};
 ghost use Rattle.polar.specs.Code.{least};

@@ -1,4 +1,6 @@
 // Masks of information phases.
+#![tactic(auto)]
+
 ghost use Rattle.std.specs.Prelude.{◌≡◌, ◌≤◌};
 ghost use Rattle.mask.specs.Mask.{payload_bytes};
 

@@ -1,4 +1,6 @@
 // The information order, and the job information mask.
+#![tactic(auto)]
+
 ghost use Rattle.std.specs.Prelude.{◌≡◌, ◌≤◌};
 ghost use Rattle.bits.specs.Packed.{unpack};
 ghost use Rattle.answer.specs.Verdict.{verdict};
@@ -81,6 +83,6 @@ pub fn information_mask(p: usize, out: &mut [u8]) -> Answer
         return Answer::WrongSize;
     }
     let mask = information_bits(p);
-    bytes::copy(&mask, out);
+    out[..32].copy_from_slice(&mask);
     Answer::Done
 }

@@ -1,5 +1,5 @@
 -- Proof side: the symbols of rows so far, and what a run of two layers hands out. Assumes nothing.
-use Rattle.std.specs.Prelude.{◌≡◌, Bool, List, [], ◌++◌, ℕ, zero, suc, ◌/◌, ◌%◌, ◌<◌, ℤ, length, get_or}
+use Rattle.std.specs.Prelude.{◌≡◌, Bool, List, [], ◌++◌, ℕ, zero, suc, ◌/◌, ◌%◌, ◌<◌, ℤ, get_or}
 use Rattle.std.proofs.Math.Seq.{paste}
 use Rattle.base.specs.Bit.{bit}
 use Rattle.bits.specs.Packed.{bits}

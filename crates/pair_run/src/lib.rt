@@ -1,4 +1,6 @@
 // The run of two layers: row after row, sixteen outer kernels side by side and the inner one over their scores.
+#![tactic(auto)]
+
 ghost use Rattle.std.specs.Prelude.{◌≡◌, ◌+◌, ◌≤◌, ◌<◌, length};
 ghost use Rattle.std.proofs.Math.Seq.{paste};
 ghost use Rattle.lane.specs.Lanes.{LanesWithin};
@@ -17,7 +19,7 @@ pub fn store_scores(found: [i32; 16], at: usize, out: &mut [i32])
 }
 
 // The symbols of a run, and those of its outer kernels as planes.
-#[derive(Drop)]
+#[derive(Clone, Copy)]
 pub struct Pair {
     pub symbols: [u16; 16],
     pub planes: [u16; 16],

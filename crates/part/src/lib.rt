@@ -1,4 +1,6 @@
 // The payload part of a caller's bytes.
+#![tactic(auto)]
+
 ghost use Rattle.std.specs.Prelude.{◌≡◌};
 ghost use Rattle.part.specs.Part.{part_length, payload_part};
 

@@ -1,10 +1,12 @@
 // The paths of a list: their symbols and penalties, and their records in lent bytes.
+#![tactic(auto)]
+
 ghost use Rattle.std.specs.Prelude.{◌≡◌, Bool, false, ◌≢◌, List, [], ◌∷◌, ◌++◌, ℕ, ◌+◌, ◌*◌, ◌≤◌, ◌<◌, length, take, drop, replicate};
 ghost use Rattle.bits.specs.Packed.{bits, unpack};
 ghost use Rattle.path.specs.Path.{HasSymbols, bytes_of, path_of, path_at};
 
 // A path of the list: its 256 symbols, packed, those of later phases being 0, and its penalty.
-#[derive(Drop)]
+#[derive(Clone, Copy)]
 pub struct Path {
     pub symbols: [u8; 32],
     pub penalty: u32,

@@ -1,4 +1,6 @@
 // The first row of a wide window: the best scores of its paths, drawn from a Hadamard transform.
+#![tactic(auto)]
+
 ghost use Rattle.std.specs.Prelude.{◌≡◌, Bool, false, ℕ, ◌+◌, ◌*◌, ◌/◌, ◌≤◌, ◌<◌, T, pos, nat_abs, ◌+ℤ◌, ◌-ℤ◌, get_or};
 ghost use Rattle.std.specs.Int.Signed.{non_neg};
 ghost use Rattle.base.specs.Bit.{◌⊕◌, digit};

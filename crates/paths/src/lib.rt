@@ -1,4 +1,6 @@
 // The paths of a wide window, eight side by side: what each further v adds to their best scores.
+#![tactic(auto)]
+
 ghost use Rattle.std.specs.Prelude.{◌≡◌, Bool, false, [], ℕ, ◌+◌, ◌*◌, ◌/◌, ◌%◌, ◌<◌, leb, pos, ◌+ℤ◌, ◌-ℤ◌, length, get_or, set};
 ghost use Rattle.base.specs.Bit.{◌⊕◌, digit};
 ghost use Rattle.folds.specs.Rows.{row_of, cell};

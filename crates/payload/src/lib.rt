@@ -1,4 +1,6 @@
 // The marked phases of a mask, byte by byte: how many there are, whether the others are 0, and a payload gathered from them.
+#![tactic(auto)]
+
 ghost use Rattle.std.specs.Prelude.{◌≡◌, ◌++◌, ◌*◌, ◌/◌, ◌≤◌, length, drop};
 ghost use Rattle.bits.specs.Packed.{bits, number, unpack, pack};
 ghost use Rattle.payload.specs.Payload;

@@ -1,4 +1,6 @@
 // Folds of the costs of sixteen places onto four, and of two places onto one.
+#![tactic(auto)]
+
 ghost use Rattle.std.specs.Prelude.{◌≡◌, Bool, true, false, ℕ, ◌+◌, ◌-◌, ◌≤◌, ◌<◌, min, pos, neg_ℤ};
 ghost use Rattle.base.specs.Bit;
 ghost use Rattle.bits.specs.Packed.{bits};
@@ -31,7 +33,7 @@ fn negative_difference(a: u32, b: u32) -> i32
 }
 
 // What a place pays for bit 0 and for bit 1.
-#[derive(Drop)]
+#[derive(Clone, Copy)]
 pub struct PlaceCosts {
     pub zero: u32,
     pub one: u32,

@@ -1,11 +1,13 @@
 // The plan of a frame: how many layers it has, and a kernel for each.
+#![tactic(auto)]
+
 ghost use Rattle.std.specs.Prelude.{◌≡◌, false, not, ◌≤◌};
 ghost use Rattle.plan.specs.Plan.{bad_layers, bad_kernels, symbol_count, byte_count};
 
 // One record for a frame: the number of layers m, 1 to 3, and the kernels of the layers, innermost first. Those of layers past m are
 // not looked at.
 #[repr(C)]
-#[derive(Drop)]
+#[derive(Clone, Copy)]
 pub struct Plan {
     pub layers: u8,
     pub kernels: [u8; 3],

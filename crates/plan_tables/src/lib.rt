@@ -1,4 +1,6 @@
 // The tables of rows of a plan's layers, for encoding and for undoing.
+#![tactic(auto)]
+
 ghost use Rattle.std.specs.Prelude.{◌≡◌, false};
 ghost use Rattle.plan.specs.Plan.{bad_layers, bad_kernels};
 ghost use Rattle.plan_tables.specs.Tables.{layer_table, undoing_table, Tables};

@@ -1,4 +1,6 @@
 // Values from marks: received marks to soft values.
+#![tactic(auto)]
+
 ghost use Rattle.std.specs.Prelude.{◌≡◌, ◌++◌, ◌+◌, ◌*◌, ◌≤◌, ◌<◌, T, length, drop};
 ghost use Rattle.std.specs.Float.Ieee.Positive.{positive};
 ghost use Rattle.base.specs.Bit.{tabulate};
@@ -10,21 +12,21 @@ use answer::Answer;
 
 // A heard mark's I and Q amplitudes together: one symbol of the modulation, as the paper names the form. It is not one of
 // the coded symbols u of a kernel or a frame.
-#[derive(Drop)]
+#[derive(Clone, Copy)]
 pub struct Symbol {
     pub i: f32,
     pub q: f32,
 }
 
 // A received mark: heard, with two amplitudes, or blanked, with none.
-#[derive(Drop)]
+#[derive(Clone, Copy)]
 pub enum Mark {
     Heard(Symbol),
     Blanked,
 }
 
 // The two soft values of a mark.
-#[derive(Drop)]
+#[derive(Clone, Copy)]
 pub struct MarkValues {
     pub i: i8,
     pub q: i8,

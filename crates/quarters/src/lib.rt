@@ -1,4 +1,6 @@
 // Phases by fours: values folded where there is one path, the last phases of a wide window, and their results put together.
+#![tactic(auto)]
+
 ghost use Rattle.std.specs.Prelude.{◌≡◌, Bool, true, false, List, [], ◌∷◌, ℕ, ◌+◌, ◌<◌, ℤ, pos, ◌+ℤ◌, length, get_or};
 ghost use Rattle.base.specs.Bit.{bit};
 ghost use Rattle.bits.specs.Packed.{bits};
@@ -46,7 +48,7 @@ pub fn four_free(values: &[i32; 4]) -> i32
 }
 
 // Scores and symbols of three phases.
-#[derive(Drop)]
+#[derive(Clone, Copy)]
 pub struct Three {
     pub scores: [i32; 3],
     pub symbols: [bool; 3],
@@ -74,7 +76,7 @@ pub fn after_first(values: &[i32; 4], first: bool, free: u16, given: u16, from: 
 }
 
 // Scores and symbols of four phases.
-#[derive(Drop)]
+#[derive(Clone, Copy)]
 pub struct Four {
     pub scores: [i32; 4],
     pub symbols: [bool; 4],
@@ -97,7 +99,7 @@ pub fn run_four(values: &[i32; 4], free: u16, given: u16, from: usize) -> Four
 }
 
 // Scores and symbols of a whole run.
-#[derive(Drop)]
+#[derive(Clone, Copy)]
 pub struct Straight {
     pub scores: [i32; 16],
     pub symbols: [bool; 16],

@@ -1,60 +1,40 @@
 // What the test programs read and print: rows of cases, answers, bytes, and whether a buffer was kept.
+#![tactic(auto)]
+
 pub mod rows;
 
 use answer::Answer;
-use libc::STDOUT_FILENO;
+use std::io;
 
 // A label, the number and the place.
-pub fn say_answer(label: &[u8], a: Answer) {
-    io::write_all(STDOUT_FILENO, label);
-    io::write_all(STDOUT_FILENO, b": ");
-    io::print_decimal(STDOUT_FILENO, answer::number(a) as u64);
-    io::write_all(STDOUT_FILENO, b" ");
-    io::print_decimal(STDOUT_FILENO, answer::place(a) as u64);
+pub fn say_answer(rt: &impl Print, label: &[u8], a: Answer) -> io::Result<()> {
+    rt.write_all(label)?;
+    print!(rt; ": {} {}", answer::number(a), answer::place(a))
 }
 
-pub fn say_kept(kept: bool) {
-    if kept {
-        io::write_all(STDOUT_FILENO, b", kept\n");
-    } else {
-        io::write_all(STDOUT_FILENO, b", changed\n");
-    }
+pub fn say_kept(rt: &impl Print, kept: bool) -> io::Result<()> {
+    let word = if kept { "kept" } else { "changed" };
+    println!(rt; ", {word}")
 }
 
-fn say_byte(x: u8) {
-    io::print_hex(STDOUT_FILENO, x as u64, 2);
+fn say_byte(rt: &impl Print, x: u8) -> io::Result<()> {
+    print!(rt; "{x:02x}")
 }
 
 // Bytes in hexadecimal.
-pub fn say_bytes(s: &[u8]) {
-    let mut i: usize = 0;
-    while i < s.len() {
-        say_byte(s[i]);
-        i += 1;
+pub fn say_bytes(rt: &impl Print, s: &[u8]) -> io::Result<()> {
+    for x in s {
+        say_byte(rt, *x)?;
     }
+    Ok(())
 }
 
 // Whether two buffers are of one length and agree from an index on.
 pub fn same_from(a: &[u8], b: &[u8], from: usize) -> bool {
-    if a.len() != b.len() {
-        return false;
-    }
-    let mut i = from;
-    while i < a.len() {
-        if a[i] != b[i] {
-            return false;
-        }
-        i += 1;
-    }
-    true
+    a.len() == b.len() && a.iter().zip(b).skip(from).all(|(x, y)| x == y)
 }
 
 // A number with its sign, after a space.
-pub fn say_score(x: i32) {
-    if x < 0 {
-        io::write_all(STDOUT_FILENO, b" -");
-    } else {
-        io::write_all(STDOUT_FILENO, b" ");
-    }
-    io::print_decimal(STDOUT_FILENO, folds::size(x) as u64);
+pub fn say_score(rt: &impl Print, x: i32) -> io::Result<()> {
+    print!(rt; " {x}")
 }

@@ -4,24 +4,9 @@ ghost use Rattle.std.specs.Prelude.{◌≤◌, length};
 // What a number has added to it where a minus sign stands before it: 2^40.
 const MINUS: u64 = 1099511627776;
 
-// The end of the line that begins at an index.
-pub fn line_end(text: &[u8], from: usize) -> usize
-    requires { from ≤ length text.now }
-    ensures { (from ≤ result) × (result ≤ length text.now) }
-{
-    let mut i = from;
-    while i < text.len() {
-        if text[i] == b'\n' {
-            return i;
-        }
-        i += 1;
-    }
-    i
-}
-
 // The first byte of a line, or 0.
 pub fn first(line: &[u8]) -> u8 {
-    if line.len() > 0 { line[0] } else { 0 }
+    line.first().copied().unwrap_or(0)
 }
 
 // A digit, or 16 where there is none; a to f are digits where the base is 16.
@@ -86,16 +71,10 @@ fn next_base(base: u64, d: u64, c: u8) -> u64 {
 }
 
 // Where the numbers of a line begin.
-fn start(line: &[u8]) -> usize {
-    let mut at: usize = 0;
-    let mut i: usize = 0;
-    while i < line.len() {
-        if line[i] == b':' {
-            at = i;
-        }
-        i += 1;
-    }
-    at
+fn start(line: &[u8]) -> usize
+    ensures { result ≤ length line.now }
+{
+    line.iter().rposition(|c| *c == b':').unwrap_or(0)
 }
 
 // The numbers of a line, at most 32; x before one says that it is hexadecimal.
@@ -104,15 +83,12 @@ pub fn numbers(line: &[u8]) -> [u64; 32] {
     let mut k: usize = 0;
     let mut inside = false;
     let mut base: u64 = 10;
-    let mut i = start(line);
-    while i < line.len() {
-        let c = line[i];
-        let d = digit(c, base);
+    for c in &line[start(line)..] {
+        let d = digit(*c, base);
         k = next_place(k, inside, d);
-        out[k] = next_value(out[k], base, d, c);
-        base = next_base(base, d, c);
+        out[k] = next_value(out[k], base, d, *c);
+        base = next_base(base, d, *c);
         inside = d < 16;
-        i += 1;
     }
     out
 }

@@ -1,12 +1,14 @@
 // Kernel encode and kernel undo over all 65,536 symbol words of each kernel: whether each comes back, whether its word made bit
 // by bit is the same, and a digest of the words.
+#![tactic(auto)]
+
 ghost use Rattle.std.specs.Prelude.{◌≡◌};
 
 use answer::Answer;
-use libc::STDOUT_FILENO;
+use std::io;
 
 // Whether all symbols so far came back, and a digest of their words.
-#[derive(Drop)]
+#[derive(Clone, Copy)]
 struct Tally {
     whole: bool,
     digest: u64,
@@ -23,16 +25,9 @@ fn with_word(t: Tally, kernel: u8, symbols: u16) -> Tally {
     let word = answer::word(kernel::kernel_encode(kernel, symbols));
     let back = answer::word(kernel::kernel_undo(kernel, word));
     let digest = (t.digest % 2147483647 * 65599 + wide(word)) % 2147483647;
-    if back == symbols {
-        Tally {
-            whole: t.whole,
-            digest,
-        }
-    } else {
-        Tally {
-            whole: false,
-            digest,
-        }
+    Tally {
+        whole: t.whole && back == symbols,
+        digest,
     }
 }
 
@@ -41,10 +36,8 @@ fn all_words(kernel: u8) -> Tally {
         whole: true,
         digest: 0,
     };
-    let mut u: u32 = 0;
-    while u < 65536 {
-        t = with_word(t, kernel, (u % 65536) as u16);
-        u += 1;
+    for symbols in 0..=u16::MAX {
+        t = with_word(t, kernel, symbols);
     }
     t
 }
@@ -57,60 +50,44 @@ fn same_word(kernel: u8, symbols: u16) -> bool {
 
 // Whether every word is the same made bit by bit.
 fn same_words(kernel: u8) -> bool {
-    let mut same = true;
-    let mut u: u32 = 0;
-    while u < 65536 {
-        if !same_word(kernel, (u % 65536) as u16) {
-            same = false;
-        }
-        u += 1;
-    }
-    same
+    (0..=u16::MAX).all(|symbols| same_word(kernel, symbols))
 }
 
-fn say_all(all: bool, what: &[u8]) {
-    if !all {
-        io::write_all(STDOUT_FILENO, b"not ");
-    }
-    io::write_all(STDOUT_FILENO, b"all ");
-    io::write_all(STDOUT_FILENO, what);
+fn say_all(rt: &impl Print, all: bool, what: &str) -> io::Result<()> {
+    let not = if all { "" } else { "not " };
+    print!(rt; "{not}all {what}")
 }
 
-fn report(kernel: u8) {
+fn report(rt: &impl Print, kernel: u8) -> io::Result<()> {
     let t = all_words(kernel);
-    io::write_all(STDOUT_FILENO, b"kernel ");
-    io::print_decimal(STDOUT_FILENO, kernel as u64);
-    io::write_all(STDOUT_FILENO, b": ");
-    say_all(t.whole, b"came back, ");
-    say_all(same_words(kernel), b"the same bit by bit, digest ");
-    io::print_decimal(STDOUT_FILENO, t.digest);
-    io::write_all(STDOUT_FILENO, b"\n");
+    print!(rt; "kernel {kernel}: ")?;
+    say_all(rt, t.whole, "came back, ")?;
+    say_all(rt, same_words(kernel), "the same bit by bit, digest ")?;
+    println!(rt; "{}", t.digest)
 }
 
-fn say_answer(a: Answer) {
-    io::write_all(STDOUT_FILENO, b" ");
-    io::print_decimal(STDOUT_FILENO, answer::number(a) as u64);
-    io::write_all(STDOUT_FILENO, b" ");
-    io::print_decimal(STDOUT_FILENO, answer::place(a) as u64);
-    io::write_all(STDOUT_FILENO, b" ");
-    io::print_decimal(STDOUT_FILENO, wide(answer::word(a)));
+fn say_answer(rt: &impl Print, a: Answer) -> io::Result<()> {
+    print!(rt;
+        " {} {} {}",
+        answer::number(a),
+        answer::place(a),
+        answer::word(a)
+    )
 }
 
 // Number, place and word of both jobs with a number that no kernel has.
-fn refuse(kernel: u8) {
-    io::write_all(STDOUT_FILENO, b"kernel ");
-    io::print_decimal(STDOUT_FILENO, kernel as u64);
-    io::write_all(STDOUT_FILENO, b": encode");
-    say_answer(kernel::kernel_encode(kernel, 65535));
-    io::write_all(STDOUT_FILENO, b", undo");
-    say_answer(kernel::kernel_undo(kernel, 65535));
-    io::write_all(STDOUT_FILENO, b"\n");
+fn refuse(rt: &impl Print, kernel: u8) -> io::Result<()> {
+    print!(rt; "kernel {kernel}: encode")?;
+    say_answer(rt, kernel::kernel_encode(kernel, 65535))?;
+    print!(rt; ", undo")?;
+    say_answer(rt, kernel::kernel_undo(kernel, 65535))?;
+    println!(rt)
 }
 
-fn main() {
-    report(0);
-    report(1);
-    report(2);
-    refuse(3);
-    refuse(255);
+fn main(rt: HostRuntime) -> io::Result<()> {
+    report(&rt, 0)?;
+    report(&rt, 1)?;
+    report(&rt, 2)?;
+    refuse(&rt, 3)?;
+    refuse(&rt, 255)
 }

@@ -1,4 +1,6 @@
 // One run of a kernel: its sixteen phases in order, each symbol given or free.
+#![tactic(auto)]
+
 ghost use Rattle.std.specs.Prelude.{◌≡◌, [], ◌<◌, length, get_or};
 ghost use Rattle.base.specs.Bit;
 ghost use Rattle.bits.specs.Packed.{bits};
@@ -40,7 +42,7 @@ pub fn symbol_of(free: u16, given: u16, i: usize, score: i32) -> bool
 }
 
 // The symbols and scores of a run.
-#[derive(Drop)]
+#[derive(Clone, Copy)]
 pub struct Run {
     pub symbols: u16,
     pub scores: [i32; 16],

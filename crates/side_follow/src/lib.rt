@@ -1,4 +1,6 @@
 // Sixteen kernels followed side by side along given symbols, for tests alone: the library for C has this engine only within frames.
+#![tactic(auto)]
+
 ghost use Rattle.std.specs.Prelude.{◌≡◌, Bool, [], ℕ, ◌+◌, ◌*◌, ◌≤◌, ◌<◌, pos, nat_abs, length, get_or};
 ghost use Rattle.base.proofs.List.{filled};
 ghost use Rattle.polar.specs.Code.{pay, score};

@@ -1,4 +1,6 @@
 // One soft value: the product of an amplitude and a scale, rounded once in f32, to the nearest whole number in range.
+#![tactic(auto)]
+
 ghost use Rattle.std.specs.Prelude.{◌≡◌, not, min, max, ◌≤◌, T};
 ghost use Rattle.std.specs.Float.{binary32};
 ghost use Rattle.std.specs.Float.Ieee.{is_nan, of_bits};

@@ -1,4 +1,6 @@
 // A payload's bits spread over the marked phases of a mask, byte by byte.
+#![tactic(auto)]
+
 ghost use Rattle.std.specs.Prelude.{◌≡◌, ◌+◌, ◌*◌, ◌≤◌, length, drop, slice_index};
 ghost use Rattle.bits.specs.Packed.{bits, number, unpack, pad};
 ghost use Rattle.payload.specs.Payload;

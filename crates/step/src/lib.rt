@@ -1,4 +1,6 @@
 // One phase of a kernel by its decoding window: the best scores of all paths, from the rows of the phase before or folded anew.
+#![tactic(auto)]
+
 ghost use Rattle.std.specs.Prelude.{◌≡◌, Bool, true, false, [], ℕ, ◌+◌, ◌-◌, ◌*◌, ◌/◌, ◌%◌, ◌^◌, ◌≤◌, ◌<◌, take, get_or, pos, neg_ℤ, nat_abs};
 ghost use Rattle.std.specs.Int.Bits.{bit_xor};
 ghost use Rattle.base.specs.Bit;
@@ -68,7 +70,7 @@ fn minus(x: u32) -> i32
 }
 
 // The best scores of one path, for symbol 0 and for symbol 1.
-#[derive(Drop)]
+#[derive(Clone, Copy)]
 struct Best {
     zero: i32,
     one: i32,

@@ -1,5 +1,7 @@
 // Kernel 1's run straight through its sixteen phases: two blocks of eight paths side by side, one for each v3, and values folded
 // where there is one path.
+#![tactic(auto)]
+
 ghost use Rattle.std.specs.Prelude.{◌≡◌, Bool, true, false, List, [], ◌∷◌, ℕ, ◌+◌, ◌<◌, ℤ, pos, ◌+ℤ◌, ◌-ℤ◌, length, get_or};
 ghost use Rattle.base.specs.Bit.{◌⊕◌, bit, digit};
 ghost use Rattle.bits.specs.Packed.{bits};
@@ -63,7 +65,7 @@ fn fourth1(eighths: &[i32; 8], scores: &[i32; 4], v: &[bool; 4], v3: bool) -> [i
 }
 
 // Three phases of a window with v3 free, and of each v3 the row that is kept.
-#[derive(Drop)]
+#[derive(Clone, Copy)]
 pub struct Blocks {
     pub scores: [i32; 3],
     pub symbols: [bool; 3],
@@ -109,7 +111,7 @@ fn blocks1(
 }
 
 // A phase of a window, and for each v11 the row that is kept.
-#[derive(Drop)]
+#[derive(Clone, Copy)]
 pub struct Widened {
     pub score: i32,
     pub symbol: bool,

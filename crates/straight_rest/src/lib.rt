@@ -1,5 +1,7 @@
 // The runs of kernels 0 and 2 straight through their sixteen phases: values folded where there is one path, and the eight paths
 // of kernel 2's window side by side.
+#![tactic(auto)]
+
 ghost use Rattle.std.specs.Prelude.{◌≡◌, Bool, false, List, [], ◌∷◌, ℕ, ◌+◌, ◌<◌, ℤ, pos, length, get_or};
 ghost use Rattle.base.specs.Bit.{◌⊕◌, bit};
 ghost use Rattle.bits.specs.Packed.{bits};
@@ -40,7 +42,7 @@ pub fn kernel0(values: &[i32], free: u16, given: u16) -> Straight
 }
 
 // Kernel 2, phase 4, and what the window begins with: the first row and the places of its paths.
-#[derive(Drop)]
+#[derive(Clone, Copy)]
 pub struct Fifth {
     pub score: i32,
     pub symbol: bool,
@@ -80,7 +82,7 @@ fn fifth2(
 }
 
 // Three phases of a window, and the row that is kept after them.
-#[derive(Drop)]
+#[derive(Clone, Copy)]
 pub struct Wide {
     pub scores: [i32; 3],
     pub symbols: [bool; 3],

@@ -1,4 +1,6 @@
 // Text in ASCII codes, put into a buffer: bytes as they are, a number in decimal, bytes in hexadecimal.
+#![tactic(auto)]
+
 ghost use Rattle.std.specs.Prelude.{◌≡◌, ◌+◌, ◌≤◌, ◌<◌, length};
 ghost use Rattle.text.specs.Text.{hex_digit, decimal, hexadecimal};
 ghost use Rattle.text.specs.Put.{Put};

@@ -1,4 +1,6 @@
 // The run of three layers: row after row, 256 outer kernels in sixteen groups side by side, and a run of two layers over their scores.
+#![tactic(auto)]
+
 ghost use Rattle.std.specs.Prelude.{◌≡◌, [], ℕ, ◌+◌, ◌*◌, ◌≤◌, ◌<◌, length, get_or, set, pos, nat_abs};
 ghost use Rattle.std.proofs.Math.Seq.{paste};
 ghost use Rattle.folds.specs.Range.{first_outside};

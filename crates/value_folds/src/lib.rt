@@ -1,4 +1,6 @@
 // Folds of channel values: two onto one, the second one's bit free or the first one's known.
+#![tactic(auto)]
+
 ghost use Rattle.std.specs.Prelude.{◌≡◌, false, ℕ, ◌+◌, ◌≤◌, ◌<◌, pos, nat_abs, length, get_or};
 ghost use Rattle.values.specs.Value;
 ghost use Rattle.values.specs.Value.{free_value, known_value, gain, Small};
