@@ -83,7 +83,7 @@ lowest-index (suc k) f = go (2 ^ k - 1) (omega (arith, pow_pos k)) (lowest-index
         (p ∙ ap (least_to (λ w. f (false ∷ bits k w))) m ∙ sym (least_to-ext _ _ a (λ j l. ap f (bits_below k j (omega arith)))))
         (q
         ∙ ap (least_to (λ w. f (true ∷ bits k w))) m
-        ∙ sym (least_to-ext _ _ a (λ j l. ap (λ w. f (bits (suc k) w)) (omega (arith, one-mul (2 ^ k))) ∙ ap f (bits_above k j (omega arith)))))
+        ∙ sym (least_to-ext _ _ a (λ j l. let s : suc a + j ≡ 1 * 2 ^ k + j = omega (arith, one-mul (2 ^ k)) in ap (λ w. f (bits (suc k) w)) s ∙ ap f (bits_above k j (omega arith)))))
         ∙ sym (ap (least_to (λ w. f (bits (suc k) w))) n ∙ least_to-split (λ w. f (bits (suc k) w)) a a)
 
 -- ---- the greatest of a row

@@ -1,10 +1,10 @@
 -- Undo of encode, encode of undo, and one payload for each word: for all plans at once, as instances of the theory. Assumes nothing.
 use mathlib.Core.Path.{◌≡◌, refl, sym, ap, ap₂, ◌∙◌}
 use mathlib.Core.Bool.{Bool, true, false, not, ◌||◌}
-use mathlib.Core.List.{List, [], ◌∷◌, ◌++◌}
+use mathlib.Core.List.{List, ◌++◌}
 use Prim.Native.Nat.{ℕ, ◌*◌, ◌/◌, ◌≤◌, ◌<◌}
 use native.Mathlib.Omega.{arith}
-use borrow.Author.Tests.{not-false, eqb-true, eq-eqb, ltb-false, le-ltb, lt-ltb}
+use borrow.Author.Tests.{not-false, eqb-true, eq-eqb, ltb-false, le-ltb}
 use lib.Dec.{eqb, ltb}
 use lib.ListN.{length, get_or, take, drop}
 use lib.Seq.{take_at}
@@ -15,9 +15,9 @@ use Rattle.bits.specs.Packed.{unpack, pack}
 use Rattle.payload.specs.Payload.{ones, spread, gather, frozen_one}
 use Rattle.bits.proofs.Packed.{length-unpack, length-pack, pack-lt, unpack-pack, packed}
 use Rattle.payload.proofs.Payload.{length-spread, length-gather, gather-spread, spread-gather, frozen-spread, frozen-le}
-use Rattle.answer.specs.Verdict.{Verdict, done, refused, is_accepted, settle, after}
+use Rattle.answer.specs.Verdict.{Verdict, done, refused, is_accepted, after}
 use Rattle.answer.proofs.Settle.{None, none_of, settle-none}
-use Rattle.mask.specs.Mask.{marked, bad_mask, payload_bytes}
+use Rattle.mask.specs.Mask.{marked, bad_mask}
 use Rattle.mask.proofs.Mask.{bytes-marked, bytes-eighth}
 use Rattle.polar.specs.Code.{symbols_in}
 use Rattle.polar.proofs.Undo.{length-symbols-in, symbols-of-word, word-of-symbols}

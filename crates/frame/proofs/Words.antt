@@ -2,8 +2,8 @@
 use mathlib.Core.Path.{◌≡◌, refl, sym, ap, ap₂, ◌∙◌}
 use mathlib.Core.Bool.{Bool, false, ◌&&◌}
 use mathlib.Core.List.{List, [], ◌∷◌, ◌++◌, append-nil}
-use Prim.Native.Nat.{ℕ, zero, suc, ◌+◌, ◌-◌, ◌*◌, ◌/◌, ◌%◌, ◌^◌, ◌≤◌, ◌<◌}
-use native.Mathlib.Nat.{mod-lt, mul_comm, div-lt_iff_lt-mul, one-le-pow}
+use Prim.Native.Nat.{ℕ, zero, suc, ◌-◌, ◌*◌, ◌/◌, ◌%◌, ◌^◌, ◌<◌}
+use native.Mathlib.Nat.{mod-lt, div-lt_iff_lt-mul, one-le-pow}
 use native.Mathlib.Omega.{arith}
 use lib.ListN.{get_or, length, drop}
 use lib.Seq.{drop-length}
@@ -15,7 +15,7 @@ use Rattle.bits.proofs.Packed.{length-unpack, unpack-pack}
 use Rattle.payload.specs.Payload.{spread}
 use Rattle.polar.specs.Code.{Code, UndoneBy, symbols_in}
 use Rattle.polar.specs.Kernel.{Kernel, Invertible, inverted}
-use Rattle.polar.specs.Frame.{extent, factor, layers}
+use Rattle.polar.specs.Frame.{factor, layers}
 use Rattle.polar.specs.Encoding.{backward}
 use Rattle.polar.proofs.Layers.{extent-power}
 use Rattle.polar.proofs.Encoding.{undoing, layers-undone, layers-redone}

@@ -1,5 +1,5 @@
 -- The sums of what the phases of a frame pay are its penalties. Assumes nothing.
-use mathlib.Core.Path.{◌≡◌, refl, sym, ap, ap₂, ◌∙◌}
+use mathlib.Core.Path.{◌≡◌, sym, ap, ap₂, ◌∙◌}
 use mathlib.Core.Bool.{Bool, false}
 use mathlib.Core.List.{List, [], ◌++◌}
 use Prim.Native.Nat.{ℕ, suc, ◌+◌, ◌-◌, ◌*◌, ◌/◌, ◌%◌, ◌^◌, ◌≤◌, ◌<◌}
@@ -8,15 +8,14 @@ use lib.IntN.{ℤ, pos}
 use lib.ListN.{length, get_or, take, drop, get_or-append}
 use Rattle.base.specs.Bit.{bit, tabulate}
 use Rattle.base.proofs.List.{tabulate-cong}
-use Rattle.polar.specs.Code.{Code, Costs, pay, channel, sum, least, score}
+use Rattle.polar.specs.Code.{Code, pay, channel, sum, least, score}
 use Rattle.polar.specs.Follow.{scores, penalties}
 use Rattle.polar.proofs.Minima.{sum-cong}
 use Rattle.polar.proofs.Least.{channel-nil, least-bound}
 use Rattle.polar.proofs.Follow.{penalty-sum, scores-at, length-scores}
-use Rattle.polar.proofs.Layers.{layers-onto, extent-power}
+use Rattle.polar.proofs.Layers.{layers-onto}
 use Rattle.folds.specs.Range.{first_outside}
 use Rattle.folds.proofs.Signs.{channel-most}
-use Rattle.kernel.specs.Rows.{row_bit}
 use Rattle.kernel.proofs.Solved.{invertible}
 use Rattle.plan.specs.declared.Plan.{Plan}
 use Rattle.plan.specs.Plan.{bad_layers, plan_kernel, plan_code, symbol_count}

@@ -1,20 +1,19 @@
 -- Runs of one layer, two and three as runs of the layers' code. Assumes nothing.
 use mathlib.Core.Path.{◌≡◌, refl, sym, ap, ap₂, ◌∙◌, fun_ext, subst, subst⁻¹}
-use mathlib.Core.Bool.{Bool, false}
-use mathlib.Core.List.{List, [], ◌∷◌, ◌++◌, map}
-use Prim.Native.Nat.{ℕ, zero, suc, ◌+◌, ◌-◌, ◌*◌, ◌/◌, ◌%◌, ◌^◌, ◌≤◌, ◌<◌}
+use mathlib.Core.Bool.{Bool}
+use mathlib.Core.List.{List, ◌++◌, map}
+use Prim.Native.Nat.{ℕ, ◌+◌, ◌-◌, ◌*◌, ◌/◌, ◌%◌, ◌^◌, ◌<◌}
 use native.Mathlib.Nat.{zero-add, div-lt_iff_lt-mul}
 use native.Mathlib.Omega.{arith}
 use lib.IntN.{ℤ, pos}
-use lib.ListN.{length, get_or, take, drop, set}
-use lib.Seq.{paste, take_all, length-take-le, get_or-set_same, ext_get_or}
-use Rattle.base.specs.Bit.{bit, tabulate}
-use Rattle.base.proofs.List.{same_bits, tabulate-cong, length-tabulate}
+use lib.ListN.{length, get_or, take, drop}
+use lib.Seq.{paste, take_all, length-take-le}
+use Rattle.base.specs.Bit.{bit}
+use Rattle.base.proofs.List.{same_bits, tabulate-cong}
 use Rattle.bits.specs.Packed.{bits}
-use Rattle.bits.proofs.Packed.{length-bits}
 use Rattle.polar.specs.Code.{Code, Costs, pay, channel, score}
 use Rattle.polar.specs.Follow.{scores}
-use Rattle.polar.specs.Kernel.{Kernel, code}
+use Rattle.polar.specs.Kernel.{code}
 use Rattle.polar.specs.Stages.{rows, staged}
 use Rattle.polar.specs.Frame.{layers}
 use Rattle.polar.proofs.Layer.{pos-right}
@@ -22,7 +21,6 @@ use Rattle.polar.proofs.Follow.{length-scores}
 use Rattle.polar.proofs.Alike.{Alike, alike-score}
 use Rattle.polar.proofs.Layers.{layers-one, frame-layers, layers-next}
 use Rattle.kernel.specs.Kernels.{kernel, kernel_code}
-use Rattle.kernel.specs.Rows.{row_bit}
 use Rattle.kernel.proofs.Solved.{invertible}
 use Rattle.plan.specs.Pairs.{frame_code}
 use Rattle.grid.specs.Grid.{rows_bits}

@@ -1,14 +1,13 @@
 -- Rows of sixteen bits and the two bytes of each. Assumes nothing.
 use mathlib.Core.Path.{◌≡◌, sym, ap, ap₂, ◌∙◌}
-use mathlib.Core.Bool.{false}
-use mathlib.Core.List.{List, ◌++◌}
-use Prim.Native.Nat.{ℕ, zero, suc, ◌+◌, ◌-◌, ◌*◌, ◌/◌, ◌%◌, ◌^◌, ◌≤◌, ◌<◌}
-use native.Mathlib.Nat.{div-div-eq-div-mul, mod-lt}
+use mathlib.Core.List.{List}
+use Prim.Native.Nat.{ℕ, zero, suc, ◌+◌, ◌-◌, ◌*◌, ◌/◌, ◌%◌, ◌^◌, ◌<◌}
+use native.Mathlib.Nat.{div-div-eq-div-mul}
 use native.Mathlib.Omega.{arith}
-use lib.ListN.{get_or, length, drop}
+use lib.ListN.{get_or, length}
 use lib.Pow.{pow-add}
 use Rattle.base.specs.Bit.{bit, odd, tabulate}
-use Rattle.base.proofs.List.{length-tabulate, tabulate-at, same_bits, filled}
+use Rattle.base.proofs.List.{length-tabulate, tabulate-at, same_bits}
 use Rattle.bits.specs.Packed.{bits, unpack, pack}
 use Rattle.bits.proofs.Packed.{bits_at, bits-mod, length-unpack, unpack-at, packed}
 use Rattle.kernel.specs.Rows.{row_bit}

@@ -1,5 +1,5 @@
 -- The bits of rows, and the sums of rows as a layer's stage has them. Assumes nothing.
-use mathlib.Core.Path.{◌≡◌, refl, sym, ap, ap₂, ◌∙◌}
+use mathlib.Core.Path.{◌≡◌, sym, ap, ap₂, ◌∙◌}
 use mathlib.Core.Bool.{Bool, false, ◌&&◌}
 use mathlib.Core.List.{List}
 use Prim.Native.Nat.{ℕ, ◌+◌, ◌*◌, ◌/◌, ◌%◌, ◌<◌}
@@ -7,7 +7,7 @@ use native.Mathlib.Nat.{mul_comm, mul_assoc, div-div-eq-div-mul}
 use native.Mathlib.Omega.{arith}
 use lib.Arith.{mod-mul}
 use lib.ListN.{get_or, length}
-use Rattle.base.specs.Bit.{bit, parity, tabulate}
+use Rattle.base.specs.Bit.{bit, tabulate}
 use Rattle.base.proofs.Bool.{parity-cong}
 use Rattle.base.proofs.List.{length-tabulate, tabulate-at, tabulate-cong}
 use Rattle.bits.specs.Packed.{bits, number}

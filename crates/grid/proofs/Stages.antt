@@ -2,14 +2,14 @@
 use mathlib.Core.Path.{◌≡◌, refl, sym, ap, ap₂, ◌∙◌}
 use mathlib.Core.Bool.{Bool, false, ◌&&◌}
 use mathlib.Core.List.{List, [], ◌++◌}
-use Prim.Native.Nat.{ℕ, zero, suc, ◌+◌, ◌-◌, ◌*◌, ◌/◌, ◌%◌, ◌^◌, ◌≤◌, ◌<◌}
+use Prim.Native.Nat.{ℕ, suc, ◌+◌, ◌-◌, ◌*◌, ◌/◌, ◌%◌, ◌^◌, ◌≤◌, ◌<◌}
 use native.Mathlib.Nat.{mul_comm, mul_assoc, mul-suc, mul-le-mul_left, mod-lt, div-add-mod, div-lt_iff_lt-mul, div-div-eq-div-mul, mul-mod_right, one-le-pow, pow-le-pow_right, pow-succ'}
 use native.Mathlib.Numerals.{add-one}
 use native.Mathlib.Omega.{arith}
 use lib.Pow.{pow-add}
 use lib.ListN.{get_or, length, take, drop, get_or-append}
 use lib.Seq.{paste, take_at, drop_at, drop-drop, take-length}
-use Rattle.base.specs.Bit.{bit, parity, tabulate}
+use Rattle.base.specs.Bit.{bit, tabulate}
 use Rattle.base.proofs.Bool.{parity-cong}
 use Rattle.base.proofs.List.{length-tabulate, tabulate-at, tabulate-cong, tabulate-append, filled}
 use Rattle.polar.specs.Encoding.{stage, stages}

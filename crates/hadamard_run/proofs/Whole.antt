@@ -11,7 +11,7 @@ use Rattle.base.specs.Bit.{bit, tabulate}
 use Rattle.base.proofs.List.{length-tabulate, tabulate-at, tabulate-append, same_bits}
 use Rattle.bits.specs.Packed.{bits}
 use Rattle.bits.proofs.Packed.{length-bits, zero-at}
-use Rattle.polar.specs.Code.{pay, channel, score}
+use Rattle.polar.specs.Code.{channel, score}
 use Rattle.polar.specs.Follow.{scores}
 use Rattle.polar.proofs.Follow.{scores-at, length-scores}
 use Rattle.kernel.specs.Kernels.{kernel_code}

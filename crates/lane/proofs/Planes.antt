@@ -1,14 +1,14 @@
 -- The bit of a lane, as the code tests it. Assumes nothing.
 use mathlib.Core.Path.{◌≡◌, refl, sym, ap, ap₂, ◌∙◌}
-use mathlib.Core.Bool.{Bool, true, false, not, ◌&&◌, and-true, and-false, true≢false}
+use mathlib.Core.Bool.{Bool, true, false, not, ◌&&◌, and-false, true≢false}
 use Prim.Native.Nat.{ℕ, ◌^◌, ◌<◌}
 use native.Mathlib.Nat.{lt_of_le_of_lt}
 use native.Mathlib.Omega.{arith}
 use borrow.Author.Tests.{eqb-true, eq-eqb, ne_eqb}
 use lib.Dec.{eqb}
 use lib.Bits.{bit_and, and_le_l}
-use lib.ListN.{get_or, length}
-use Rattle.base.specs.Bit.{bit, every, parity}
+use lib.ListN.{get_or}
+use Rattle.base.specs.Bit.{every}
 use Rattle.base.proofs.Bool.{every-at, same_table, same-table}
 use Rattle.base.proofs.List.{same_bits}
 use Rattle.bits.specs.Packed.{bits, number}

@@ -1,14 +1,12 @@
 -- The levels of a path from eight places on, as the code goes through them. Assumes nothing.
-use mathlib.Core.Path.{◌≡◌, refl, sym, ap, ap₂, ◌∙◌, fun_ext}
-use mathlib.Core.Bool.{Bool, true, false}
+use mathlib.Core.Path.{◌≡◌, refl, sym, ap, ◌∙◌}
+use mathlib.Core.Bool.{Bool}
 use mathlib.Core.List.{List}
-use Prim.Native.Nat.{ℕ, suc, ◌+◌, ◌-◌, ◌*◌, ◌/◌, ◌%◌, ◌^◌, ◌≤◌, ◌<◌}
+use Prim.Native.Nat.{ℕ, ◌+◌, ◌-◌, ◌*◌, ◌/◌, ◌%◌, ◌≤◌, ◌<◌}
 use native.Mathlib.Omega.{arith}
-use borrow.Author.Tests.{le-leb, lt-leb}
 use Rattle.base.specs.Bit.{◌⊕◌, digit}
 use Rattle.polar.specs.Code.{Costs}
 use Rattle.polar.specs.Fold.{free_fold, known_fold, level, folded}
-use Rattle.polar.proofs.Folded.{folded-costs}
 use Rattle.windows.proofs.Levels.{known-level, free-level, next_level, level-le}
 use Rattle.lane.specs.Lanes.{node_costs, LanesWithin}
 use Rattle.lane_paths.proofs.Turn.{node_of}

@@ -10,7 +10,7 @@ use Rattle.polar.specs.Code.{Costs}
 use Rattle.polar.specs.Fold.{free_fold, known_fold}
 use Rattle.folds.specs.Rows.{select, cell, Pays}
 use Rattle.folds.proofs.Pairs.{known-pays, free-pays, select-le}
-use Rattle.lane.specs.Lanes.{lane_bits, lane_bit, word_at, node_costs, LanesWithin}
+use Rattle.lane.specs.Lanes.{lane_bits, lane_bit, node_costs, LanesWithin}
 use Rattle.lane_paths.specs.Places.{two_costs, Stands, AtPlace, AtFour}
 
 -- ---- the node of a place

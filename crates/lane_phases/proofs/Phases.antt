@@ -6,10 +6,10 @@ use Prim.Native.Nat.{ℕ, zero, suc, ◌+◌, ◌-◌, ◌*◌, ◌/◌, ◌%◌
 use native.Mathlib.Nat.{lt_of_lt_of_le}
 use native.Mathlib.Numerals.{add-one}
 use native.Mathlib.Omega.{arith}
-use lib.IntN.{ℤ, pos, neg_ℤ, nat_abs, sub_ℕ}
+use lib.IntN.{pos, neg_ℤ, nat_abs, sub_ℕ}
 use lib.ListN.{length, get_or, length-append}
 use lib.Pow.{pow_pos}
-use Rattle.base.specs.Bit.{◌⊕◌, bit, tabulate}
+use Rattle.base.specs.Bit.{◌⊕◌, bit}
 use Rattle.base.proofs.List.{length-tabulate, tabulate-at, tabulate-next}
 use Rattle.bits.specs.Packed.{bits}
 use Rattle.polar.specs.Code.{Costs, least, best_score, score}
@@ -24,7 +24,7 @@ use Rattle.kernel.specs.Kernels.{kernel_code}
 use Rattle.kernel.specs.Rows.{row_sum}
 use Rattle.windows.specs.Windows.{window, solution}
 use Rattle.windows.specs.Tables.{shape_at, path_rows}
-use Rattle.windows.specs.Paths.{Kept, Held, choice_number}
+use Rattle.windows.specs.Paths.{Kept, choice_number}
 use Rattle.windows.proofs.Tables.{shaped, again}
 use Rattle.windows.proofs.Words.{pow-le}
 use Rattle.windows.proofs.Steps.{fresh-held, again-small, again-held, by-paths}

@@ -1,12 +1,12 @@
 -- The words of a path in one lane: the planes of its symbols, and what its own symbol and the window's bits add. Assumes nothing.
-use mathlib.Core.Path.{◌≡◌, sym, ap, ap₂, ◌∙◌}
-use mathlib.Core.Bool.{Bool, true, false, ◌&&◌}
+use mathlib.Core.Path.{◌≡◌, ap, ap₂, ◌∙◌}
+use mathlib.Core.Bool.{Bool, false, ◌&&◌}
 use mathlib.Core.List.{List, ◌∷◌, ◌++◌}
 use Prim.Native.Nat.{ℕ, suc, ◌+◌, ◌≤◌, ◌<◌}
 use native.Mathlib.Omega.{arith}
 use lib.ListN.{length, get_or, get_or-append}
 use lib.Seq.{get_or-append-add}
-use Rattle.base.specs.Bit.{◌⊕◌, bit, parity, tabulate}
+use Rattle.base.specs.Bit.{◌⊕◌, bit, parity}
 use Rattle.base.proofs.Bool.{parity-cong, parity-append}
 use Rattle.base.proofs.List.{length-tabulate, tabulate-at}
 use Rattle.bits.specs.Packed.{bits}

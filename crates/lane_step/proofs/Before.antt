@@ -2,10 +2,10 @@
 use mathlib.Core.Path.{◌≡◌, sym, ap, ap₂, ◌∙◌}
 use mathlib.Core.Bool.{Bool, true, false}
 use mathlib.Core.List.{List, [], ◌∷◌}
-use Prim.Native.Nat.{ℕ, suc, ◌+◌, ◌-◌, ◌*◌, ◌%◌, ◌^◌, ◌≤◌, ◌<◌}
+use Prim.Native.Nat.{ℕ, ◌+◌, ◌-◌, ◌%◌, ◌≤◌, ◌<◌}
 use native.Mathlib.Omega.{arith}
 use lib.Bits.{bit_xor}
-use lib.ListN.{length, get_or}
+use lib.ListN.{get_or}
 use Rattle.base.specs.Bit.{◌⊕◌, bit}
 use Rattle.base.proofs.List.{same_bits}
 use Rattle.bits.specs.Packed.{bits, number}
@@ -15,7 +15,6 @@ use Rattle.kernel.specs.Rows.{chosen_bit}
 use Rattle.windows.proofs.Paths.{low_bit}
 use Rattle.lane.specs.Lanes.{lane_bit, word_at, lane_costs}
 use Rattle.lane_words.specs.Words.{window_bit}
-use Rattle.lane_phases.specs.Rows.{column}
 use Rattle.lane_phases.proofs.Words.{path-bit}
 use Rattle.lane_step.specs.Step.{number_before}
 

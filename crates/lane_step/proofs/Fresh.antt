@@ -1,20 +1,20 @@
 -- The paths of a phase whose relations reach further, as the code folds them. Assumes nothing.
 use mathlib.Core.Path.{◌≡◌, refl, sym, ap, ap₂, ◌∙◌}
 use mathlib.Core.Bool.{Bool, true, false, not, ◌&&◌, and-true, true≢false}
-use mathlib.Core.List.{List, [], ◌∷◌}
+use mathlib.Core.List.{List, []}
 use mathlib.Core.Logic.{◌⊎◌, inl, inr}
-use Prim.Native.Nat.{ℕ, zero, suc, ◌+◌, ◌-◌, ◌*◌, ◌/◌, ◌%◌, ◌^◌, ◌≤◌, ◌<◌}
+use Prim.Native.Nat.{ℕ, ◌+◌, ◌-◌, ◌*◌, ◌/◌, ◌%◌, ◌≤◌, ◌<◌}
 use native.Mathlib.Decide.{dec_lt}
 use native.Mathlib.Omega.{arith}
 use borrow.Author.Tests.{le-leb, lt-leb}
 use lib.Dec.{leb}
-use lib.ListN.{length, get_or}
+use lib.ListN.{get_or}
 use Rattle.base.specs.Bit.{◌⊕◌, bit, digit, parity}
 use Rattle.base.proofs.Bool.{⊕-false}
 use Rattle.bits.specs.Packed.{bits}
 use Rattle.bits.proofs.Packed.{length-bits, zero-at}
 use Rattle.polar.specs.Code.{Costs}
-use Rattle.polar.specs.Fold.{free_fold, known_fold, level, folded}
+use Rattle.polar.specs.Fold.{known_fold, level, folded}
 use Rattle.polar.proofs.Folded.{folded-costs, folded-words}
 use Rattle.folds.specs.Rows.{cell}
 use Rattle.kernel.specs.Rows.{chosen_bit, row_sum}

@@ -1,12 +1,12 @@
 -- A step of sixteen kernels side by side as the code takes it, with the numbers and the table of its phase at hand. Assumes nothing.
 use mathlib.Core.Path.{◌≡◌, refl, ◌∙◌, subst⁻¹}
-use mathlib.Core.Bool.{Bool, true, false}
+use mathlib.Core.Bool.{Bool, false}
 use mathlib.Core.List.{List, []}
-use Prim.Native.Nat.{ℕ, zero, suc, ◌+◌, ◌-◌, ◌*◌, ◌^◌, ◌≤◌, ◌<◌}
+use Prim.Native.Nat.{ℕ, zero, suc, ◌-◌, ◌*◌, ◌^◌, ◌≤◌, ◌<◌}
 use native.Mathlib.Nat.{pow-succ'}
 use native.Mathlib.Omega.{arith}
 use lib.ListN.{length, get_or}
-use Rattle.base.specs.Bit.{◌⊕◌, bit, tabulate}
+use Rattle.base.specs.Bit.{◌⊕◌, bit}
 use Rattle.base.proofs.List.{length-tabulate}
 use Rattle.bits.specs.Packed.{bits}
 use Rattle.polar.specs.Fold.{folded}

@@ -3,18 +3,18 @@
 use mathlib.Core.Path.{◌≡◌, refl, sym, ap, ap₂, ◌∙◌}
 use mathlib.Core.Bool.{Bool, false}
 use mathlib.Core.List.{List, [], ◌∷◌, ◌++◌}
-use Prim.Native.Nat.{ℕ, zero, suc, ◌+◌, ◌-◌, ◌*◌, ◌≤◌, ◌<◌}
+use Prim.Native.Nat.{ℕ, suc, ◌+◌, ◌-◌, ◌*◌, ◌<◌}
 use native.Mathlib.Nat.{suc-mul, zero-mul}
 use native.Mathlib.Decide.{dec_lt}
 use native.Mathlib.Omega.{arith}
-use lib.IntN.{ℤ, pos}
-use lib.ListN.{length, get_or, take, length-append, get_or-append}
+use lib.IntN.{ℤ}
+use lib.ListN.{length, take, length-append, get_or-append}
 use lib.Seq.{take-append-le, take-append-add, get_or-append-add, length-take-le}
 use Rattle.base.specs.Bit.{bit, tabulate}
 use Rattle.base.proofs.List.{tabulate-cong, tabulate-append}
 use Rattle.polar.specs.Code.{Code, Costs, pay, score, Onto}
 use Rattle.polar.specs.Follow.{scores}
-use Rattle.polar.specs.Stages.{rows, column, staged, block, soft}
+use Rattle.polar.specs.Stages.{rows, staged, block}
 use Rattle.polar.proofs.Layer.{column-next}
 use Rattle.polar.proofs.Values.{layer-scores}
 use Rattle.run.specs.Run.{symbol_by, SymbolsBy}

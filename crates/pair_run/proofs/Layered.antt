@@ -5,19 +5,18 @@ use mathlib.Core.List.{List, [], ◌∷◌, ◌++◌}
 use Prim.Native.Nat.{ℕ, ◌+◌, ◌-◌, ◌*◌, ◌≤◌, ◌<◌}
 use native.Mathlib.Omega.{arith}
 use lib.IntN.{ℤ, pos, neg_ℤ, ◌-ℤ◌}
-use lib.ListN.{length, get_or, length-append}
-use Rattle.polar.specs.Code.{Costs, pay, channel, total, least, score}
+use lib.ListN.{length, length-append}
+use Rattle.polar.specs.Code.{Costs, channel, total, least, score}
 use Rattle.polar.specs.Kernel.{code}
-use Rattle.polar.specs.Stages.{rows, column, block, pairs, soft}
+use Rattle.polar.specs.Stages.{rows, column, block, pairs}
 use Rattle.polar.proofs.Minima.{sum-cong, minimum-cong}
 use Rattle.polar.proofs.Least.{least-cong}
-use Rattle.polar.proofs.Frame.{frame-least, frame-scores}
+use Rattle.polar.proofs.Frame.{frame-least}
 use Rattle.kernel.specs.Kernels.{kernel, kernel_code}
 use Rattle.kernel.proofs.Solved.{invertible}
 use Rattle.kernel.proofs.Undoing.{code-word}
 use Rattle.plan.specs.Pairs.{frame_code}
 use Rattle.lane.specs.Lanes.{lane_costs}
-use Rattle.run.proofs.Phases.{score-cong}
 
 -- A kernel as a matrix and by its relations has the same leasts,
 pub code-least : (k : ℕ) (m : Costs) (p : List Bool) → length p ≤ 16 → least (code (kernel k)) m p ≡ least (kernel_code k) m p

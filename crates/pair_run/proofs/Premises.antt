@@ -2,20 +2,17 @@
 use mathlib.Core.Path.{◌≡◌, ap, ◌∙◌}
 use mathlib.Core.Bool.{Bool, ◌&&◌}
 use mathlib.Core.List.{List, []}
-use Prim.Native.Nat.{ℕ, ◌+◌, ◌*◌, ◌≤◌, ◌<◌, min}
+use Prim.Native.Nat.{ℕ, ◌*◌, ◌≤◌, ◌<◌, min}
 use native.Mathlib.Nat.{le_trans}
 use native.Mathlib.Omega.{arith}
 use lib.IntN.{ℤ, pos, nat_abs}
-use lib.ListN.{length, get_or, take}
+use lib.ListN.{length, get_or}
 use Rattle.base.specs.Bit.{bit}
 use Rattle.base.proofs.Bool.{parity-cong}
 use Rattle.bits.specs.Packed.{bits}
-use Rattle.bits.proofs.Packed.{length-bits}
 use Rattle.polar.specs.Code.{Costs, channel, least, score}
 use Rattle.polar.specs.Kernel.{code}
-use Rattle.polar.specs.Stages.{block}
 use Rattle.polar.proofs.Least.{least-bound}
-use Rattle.polar.proofs.Follow.{scores-at}
 use Rattle.polar.proofs.Values.{score-bound}
 use Rattle.folds.specs.Range.{value_limit, first_outside}
 use Rattle.folds.proofs.Range.{outside-all}
@@ -24,7 +21,6 @@ use Rattle.kernel.specs.Kernels.{kernel, kernel_code}
 use Rattle.kernel.specs.Rows.{row_sum, table}
 use Rattle.kernel.proofs.Rows.{row-sum-at}
 use Rattle.kernel.proofs.Table.{table-row}
-use Rattle.run.specs.Run.{KernelRun}
 use Rattle.run.proofs.Phases.{score-cong}
 use Rattle.plan.specs.Pairs.{frame_code}
 use Rattle.lane.specs.Lanes.{lane_costs, LanesWithin}

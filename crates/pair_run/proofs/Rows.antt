@@ -1,18 +1,18 @@
 -- The run of two layers, row after row: what holds after r of them. Assumes nothing.
 use mathlib.Core.Path.{◌≡◌, refl, sym, ap, ap₂, ◌∙◌, subst}
-use mathlib.Core.Bool.{Bool, false}
-use mathlib.Core.List.{List, [], ◌∷◌, ◌++◌}
-use Prim.Native.Nat.{ℕ, suc, ◌+◌, ◌*◌, ◌/◌, ◌%◌, ◌≤◌, ◌<◌}
+use mathlib.Core.Bool.{Bool}
+use mathlib.Core.List.{List, [], ◌++◌}
+use Prim.Native.Nat.{ℕ, suc, ◌+◌, ◌*◌, ◌≤◌, ◌<◌}
 use native.Mathlib.Numerals.{add-one}
 use native.Mathlib.Omega.{arith}
 use lib.IntN.{ℤ, pos}
-use lib.ListN.{length, get_or, take, set, length-set, length-append}
+use lib.ListN.{length, get_or, take, set, length-set}
 use lib.Seq.{paste, paste-zero, length-take-le, get_or-set_other}
 use Rattle.base.specs.Bit.{bit, tabulate}
 use Rattle.base.proofs.List.{length-tabulate, tabulate-cong}
 use Rattle.bits.specs.Packed.{bits}
 use Rattle.bits.proofs.Packed.{length-bits}
-use Rattle.polar.specs.Code.{Code, Costs, pay, channel, score}
+use Rattle.polar.specs.Code.{Code, pay, channel, score}
 use Rattle.polar.specs.Follow.{scores}
 use Rattle.polar.specs.Kernel.{code}
 use Rattle.polar.specs.Stages.{rows, column, staged, block}
@@ -22,7 +22,6 @@ use Rattle.polar.proofs.Matrix.{kernel-onto}
 use Rattle.polar.proofs.Frame.{frame-staged}
 use Rattle.kernel.specs.Kernels.{kernel, kernel_code}
 use Rattle.kernel.proofs.Solved.{invertible}
-use Rattle.plan.specs.Pairs.{frame_code}
 use Rattle.run.specs.Run.{symbol_by, SymbolsBy, KernelRun}
 use Rattle.run.proofs.Phases.{score-cong}
 use Rattle.layer_turns.specs.Turned.{Ran, Turned}

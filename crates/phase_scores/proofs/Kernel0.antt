@@ -7,7 +7,7 @@ use native.Mathlib.Numerals.{add-one}
 use native.Mathlib.Omega.{arith}
 use lib.IntN.{ℤ}
 use lib.ListN.{length, length-append}
-use Rattle.base.specs.Bit.{◌⊕◌, bit, tabulate}
+use Rattle.base.specs.Bit.{bit, tabulate}
 use Rattle.base.proofs.Bool.{⊕-false}
 use Rattle.base.proofs.List.{tabulate-at, tabulate-bits}
 use Rattle.polar.specs.Code.{channel, score}

@@ -1,7 +1,6 @@
 -- Rows of symbols, sixteen at a time. Assumes nothing.
 use mathlib.Core.Path.{◌≡◌, refl, sym, ap, ap₂, ◌∙◌}
-use mathlib.Core.Bool.{Bool, false}
-use mathlib.Core.List.{List, [], ◌++◌, append_assoc, append-nil}
+use mathlib.Core.List.{List, ◌++◌, append_assoc, append-nil}
 use Prim.Native.Nat.{ℕ, zero, suc, ◌+◌, ◌*◌, ◌/◌, ◌%◌, ◌≤◌, ◌<◌}
 use native.Mathlib.Nat.{add-zero}
 use native.Mathlib.Omega.{arith}
@@ -9,7 +8,6 @@ use lib.ListN.{length, get_or}
 use lib.Seq.{paste}
 use Rattle.base.specs.Bit.{bit}
 use Rattle.bits.specs.Packed.{bits}
-use Rattle.kernel.specs.Rows.{row_bit}
 use Rattle.pair_run.specs.Run.{front}
 use Rattle.pair_run.proofs.Prefixes.{front_at}
 use Rattle.layer_turns.proofs.Pasted.{paste-before, paste-within}

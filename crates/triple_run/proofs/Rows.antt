@@ -8,11 +8,11 @@ use native.Mathlib.Omega.{arith}
 use lib.IntN.{ℤ, pos, nat_abs}
 use lib.ListN.{length, get_or, set, length-set, length-append}
 use lib.Seq.{paste, paste-zero, length-paste, get_or-set_other}
-use Rattle.base.specs.Bit.{bit, parity, tabulate}
+use Rattle.base.specs.Bit.{bit, tabulate}
 use Rattle.base.proofs.Bool.{parity-cong}
 use Rattle.base.proofs.List.{length-tabulate, tabulate-at}
 use Rattle.bits.specs.Packed.{bits}
-use Rattle.polar.specs.Code.{Code, Costs, pay, channel, score}
+use Rattle.polar.specs.Code.{Code, pay, channel, score}
 use Rattle.polar.specs.Follow.{scores}
 use Rattle.polar.specs.Kernel.{code}
 use Rattle.polar.specs.Stages.{rows, column, staged, block}

@@ -1,5 +1,5 @@
 -- Groups stepped one after the other. Assumes nothing.
-use mathlib.Core.Path.{◌≡◌, refl, sym, ap, ap₂, ◌∙◌}
+use mathlib.Core.Path.{◌≡◌, refl, ap, ap₂, ◌∙◌}
 use mathlib.Core.List.{List, []}
 use Prim.Native.Nat.{ℕ, ◌+◌, ◌-◌, ◌*◌, ◌/◌, ◌%◌, ◌≤◌, ◌<◌}
 use native.Mathlib.Decide.{dec_lt}
@@ -13,7 +13,7 @@ use Rattle.kernel.specs.Kernels.{kernel_code}
 use Rattle.lane.specs.Lanes.{lane_costs}
 use Rattle.lane_phases.specs.Rows.{column as lane_column, HeldLanes}
 use Rattle.layer_turns.proofs.Pasted.{paste-before, paste-within}
-use Rattle.triple_run.specs.Groups.{Room, HeldGroups, own_symbols, ScoresOf}
+use Rattle.triple_run.specs.Groups.{Room, own_symbols, ScoresOf}
 
 module _ (k : ℕ) (costs : List (List (List (List ℕ)))) (planes : List (List ℕ)) (r : ℕ) (rows₀ : List (List (List (List ℕ)))) where
   -- The groups below g are stepped, and the others have the rows that they had.

@@ -24,7 +24,7 @@ pub record Carried (x z : ℤ) (n : ℕ) : Type 0 where
 
 -- A number that fits is held as itself, and so is a call's result.
 pub carried : (x z : ℤ) (n : ℕ) → mag x < 2 ^ 31 → x ≡ z → nat_abs z ≤ n → Carried x z n
-carried x z n h e l = record { is = to_z-of_z (record { sfits = h }) ∙ e; small = l }
+carried x z n h e l = record { is = to_z-of_z {w = w32} (record { sfits = h }) ∙ e; small = l }
 
 -- What is carried is as well what equals it.
 pub carried-as : (x a b : ℤ) (n : ℕ) → Carried x a n → a ≡ b → Carried x b n
@@ -40,7 +40,7 @@ carried-free r x y a b n f e hx hy = carried r (free_value a b) n f (e ∙ ap₂
 
 -- An entry of a list of small values is held as itself.
 pub carried-entry : (n k : ℕ) (xs : List ℤ) → Small n k xs → n < 2 ^ 31 → (i : ℕ) → i < k → Carried (get_or xs i (pos 0)) (get_or xs i (pos 0)) n
-carried-entry n k xs h l i li = record { is = to_z-of_z (fits-small (get_or xs i (pos 0)) n (h i li) l); small = h i li }
+carried-entry n k xs h l i li = record { is = to_z-of_z {w = w32} (fits-small (get_or xs i (pos 0)) n (h i li) l); small = h i li }
 
 -- The known fold of two numbers,
 pub carried-known : (r : ℤ) (c : Bool) (x y a b : ℤ) (m n : ℕ) → mag r < 2 ^ 31 → r ≡ known_value c (read x) (read y) → Carried x a m → Carried y b n → Carried r (known_value c a b) (m + n)

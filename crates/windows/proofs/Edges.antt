@@ -38,7 +38,7 @@ small-mag (pos n) m h = h
 small-mag (negsuc n) m h = omega arith
 
 small-coded : (z : ℤ) → nat_abs z ≤ 16777216 → coded z ≡ z
-small-coded z h = to_z-of_z (record { sfits = omega (arith, small-mag z 16777216 h) })
+small-coded z h = to_z-of_z {w = w32} (record { sfits = omega (arith, small-mag z 16777216 h) })
 
 less-is : (x y : ℤ) → nat_abs x ≤ 16777216 → nat_abs y ≤ 16777216 → coded x -ℤ coded y ≡ x -ℤ y
 less-is x y p q = ap₂ (λ a b. a -ℤ b) (small-coded x p) (small-coded y q)

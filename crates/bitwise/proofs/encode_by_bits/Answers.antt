@@ -1,0 +1,21 @@
+-- `bitwise::encode_by_bits` meets its contract, as kernel encode does. Assumes nothing.
+use mathlib.Core.Path.{ap, sym, ◌∙◌}
+use Rattle.answer.specs.Verdict.{word}
+use Rattle.kernel.specs.Rows.{row_sum}
+use Rattle.kernel.specs.Jobs.{encoded_word}
+use Rattle.kernel.proofs.Table.{encoded-rows}
+use Rattle.kernel.proofs.Checks.{kernel-lt, kernel-refused, kernel-passed}
+use Rattle.bitwise.proofs.encode_by_bits.Goals as goal
+
+pub returns-then-not-is_kernel : goal.returns-then-not-is_kernel
+returns-then-not-is_kernel c = kernel-refused c.args.kernel _ (sym c.is_kernel.ensures ∙ c.if-not-is_kernel.true)
+
+pub kernel_rows-requires : goal.kernel_rows-requires
+kernel_rows-requires c = kernel-lt c.args.kernel (sym c.is_kernel.ensures ∙ c.if-not-is_kernel.false)
+
+pub returns : goal.returns
+returns c =
+    let a = c.args in
+    let e = sym c.is_kernel.ensures ∙ c.if-not-is_kernel.false in
+    ap word (c.row_sum_by_bits.ensures ∙ ap (λ t. row_sum t a.symbols) c.kernel_rows.ensures ∙ encoded-rows a.kernel a.symbols (kernel-lt a.kernel e))
+    ∙ kernel-passed a.kernel (word (encoded_word a.kernel a.symbols)) e

@@ -1,0 +1,36 @@
+-- `lane_totals::opening` meets its contract: the phases past q reach no further. Assumes nothing.
+use mathlib.Core.Path.{◌≡◌, subst⁻¹}
+use Prim.Native.Nat.{ℕ, ◌-◌, ◌≤◌, ◌<◌}
+use native.Mathlib.Decide.{dec_lt}
+use native.Mathlib.Omega.{arith}
+use Rattle.lane_totals.specs.Totals.{Again}
+use borrow.Author.Rules.{rules}
+use Rattle.lane_totals.proofs.opening.Goals as goal
+
+-- One phase more that reaches no further.
+one_more : (k q n : ℕ) → Again k q → ((p : ℕ) → q < p → p ≤ n → Again k p) → (p : ℕ) → q - 1 < p → p ≤ n → Again k p
+one_more k q n f h p l m = go (dec_lt q p)
+  where
+    go : Dec (q < p) → Again k p
+    go (yes g) = h p g m
+    go (no g) = let e : p ≡ q = omega arith in subst⁻¹ (λ s. Again k s) e f
+
+pub loop-q-init : goal.loop-q-init
+loop-q-init c = (search rules, λ p l g. absurd (omega arith))
+
+pub overflow_sub-q : goal.overflow_sub-q
+overflow_sub-q c = (c.again.ensures.0 c.loop-q-test.true).0
+
+pub loop-q-smaller : goal.loop-q-smaller
+loop-q-smaller c = omega (arith, (c.again.ensures.0 c.loop-q-test.true).0)
+
+pub loop-q-preserved : goal.loop-q-preserved
+loop-q-preserved c =
+    let k = c.loop-q in
+    let a = c.args in
+    (search rules, one_more a.kernel k.q a.phase (c.again.ensures.0 c.loop-q-test.true).1 k.invariant.1)
+
+pub returns : goal.returns
+returns c =
+    let k = c.loop-q in
+    (k.invariant.0, c.again.ensures.1 c.loop-q-test.false, k.invariant.1)

@@ -1,0 +1,5 @@
+-- `link::penalty_outcome_of` meets its contract: number, place and penalty are the answer's. Assumes nothing.
+use Rattle.link.proofs.penalty_outcome_of.Goals as goal
+
+pub returns : goal.returns
+returns c = simp (c.outcome_of-o.ensures, c.penalty-penalty.ensures)

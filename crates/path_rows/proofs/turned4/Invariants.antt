@@ -1,0 +1,13 @@
+use mathlib.Core.Bool.{false}
+use Prim.Native.Nat.{◌-◌}
+use lib.IntN.{pos}
+use lib.ListN.{get_or}
+use Rattle.values.specs.Value.{turned}
+use Rattle.value_folds.proofs.Filling.{Filling}
+use Rattle.path_rows.proofs.turned4.Given as goal
+
+abbrev pub invariant-loop-i : goal.invariant-loop-i
+invariant-loop-i l = Filling (pos 0) 4 l.i (λ j. turned (get_or l.word j false) (get_or l.values j (pos 0))) l.out
+
+abbrev pub decreases-loop-i : goal.decreases-loop-i
+decreases-loop-i l = 4 - l.i

@@ -1,0 +1,11 @@
+use Prim.Native.Nat.{◌-◌, ◌≤◌}
+use Rattle.polar.specs.Fold.{free_fold}
+use Rattle.folds.specs.Rows.{costs_of}
+use Rattle.folds.proofs.Fill.{Filled}
+use Rattle.place_folds.proofs.free_free.Given as goal
+
+abbrev pub invariant-loop-i : goal.invariant-loop-i
+invariant-loop-i l = (l.i ≤ 4) × Filled 0 4 l.i (free_fold 4 (free_fold 8 (costs_of l.rows))) l.out
+
+abbrev pub decreases-loop-i : goal.decreases-loop-i
+decreases-loop-i l = 4 - l.i

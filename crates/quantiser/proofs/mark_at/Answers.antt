@@ -1,0 +1,10 @@
+-- `quantiser::mark_at` meets its contract. Assumes nothing.
+use mathlib.Core.Path.{sym, ◌∙◌}
+use Rattle.quantiser.proofs.Request.{blanked-mark, heard-mark}
+use Rattle.quantiser.proofs.mark_at.Goals as goal
+
+pub returns-then-bit : goal.returns-then-bit
+returns-then-bit c = let a = c.args in blanked-mark a.amplitudes.now a.blanked.now a.n (sym c.bit.ensures ∙ c.if-bit.true)
+
+pub returns : goal.returns
+returns c = let a = c.args in heard-mark a.amplitudes.now a.blanked.now a.n (sym c.bit.ensures ∙ c.if-bit.false)

@@ -1,0 +1,12 @@
+-- `straight_one::begun1` meets its contract. Assumes nothing.
+use mir.Facts.{to_z-of_z}
+use Rattle.value_folds.proofs.Read.{read_is}
+use Rattle.quarters.proofs.Following.{three-one}
+use Rattle.straight_one.proofs.begun1.Goals as goal
+use mir.Syntax.{w32}
+
+pub returns : goal.returns
+returns c sc f g h es el =
+    let s = c in
+    three-one sc f g s.args.score _ s.args.symbol _ _ _ s.args.scores s.args.symbols
+    (to_z-of_z {w = w32} s.ranges.score) (read_is _ c.result-1.given) (read_is _ c.result-2-1.given) (read_is _ c.result-3-1.given) h es el
