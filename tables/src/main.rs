@@ -60,14 +60,14 @@ fn blocks(sources: &Sources) -> Result<Vec<Block>, String> {
         constant("PATHS", rattle::paths(&kernels)),
         constant("ORDER", rattle::order(&order, &distances[2])),
         definition("table", antt::rows(&kernels)),
-        definition("inverseTable", antt::inverse_rows(&kernels)),
+        definition("inverse_table", antt::inverse_rows(&kernels)),
         definition("solved", antt::solved(&kernels)),
         definition("windows", antt::windows(&kernels)),
         definition("solutions", antt::solutions(&kernels)),
-        definition("shapeTable", antt::shapes(&kernels)),
-        definition("pathTable", antt::paths(&kernels)),
+        definition("shape_table", antt::shapes(&kernels)),
+        definition("path_table", antt::paths(&kernels)),
         definition("order", antt::order(&order)),
-        definition("distanceTable", antt::partial_distances(&distances)),
+        definition("distance_table", antt::partial_distances(&distances)),
     ])
 }
 

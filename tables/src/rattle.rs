@@ -1,7 +1,23 @@
-//! The tables as constants of the code: one number to a line, as the formatter lays them out, and named.
+//! The tables as constants of the code, as the formatter lays them out: a number with a name has a line of its own, and numbers
+//! with none fill their lines.
 use crate::kernel::{packed, Kernel};
 use crate::order::product;
 use crate::phases::{again, high, names, path_rows};
+
+/// The most columns that the formatter fills with numbers.
+const WIDTH: usize = 99;
+
+/// Numbers with no name, as many to a line as it holds.
+fn filled(indent: usize, numbers: impl IntoIterator<Item = String>) -> Vec<String> {
+    let mut lines: Vec<String> = Vec::new();
+    for number in numbers {
+        match lines.last_mut() {
+            Some(line) if line.len() + number.len() + 2 <= WIDTH => *line += &format!(" {number},"),
+            _ => lines.push(format!("{:indent$}{number},", "")),
+        }
+    }
+    lines
+}
 
 /// The lines of a table of kernels, from those of each kernel.
 fn by_kernel(kernels: &[Kernel], lines: impl Fn(&Kernel) -> Vec<String>) -> Vec<String> {
@@ -56,15 +72,14 @@ pub fn paths(kernels: &[Kernel]) -> Vec<String> {
 
 /// The rows of one phase; those past the window have no name.
 fn phase_rows(kernel: &Kernel, s: usize) -> Vec<String> {
-    let names = names(&kernel.phases, s);
+    let (names, rows) = (names(&kernel.phases, s), path_rows(&kernel.phases, s));
+    let row = |&row| format!("{:#06x}", packed(row));
     let mut lines = vec!["        [".to_string()];
-    for (x, row) in path_rows(&kernel.phases, s).into_iter().enumerate() {
-        let name = match names.get(x) {
-            Some(name) => format!(" // kernel {}, phase {s}, {name}", kernel.number),
-            None => String::new(),
-        };
-        lines.push(format!("            {:#06x},{name}", packed(row)));
+    for (word, name) in rows.iter().map(row).zip(&names) {
+        let name = format!("kernel {}, phase {s}, {name}", kernel.number);
+        lines.push(format!("            {word}, // {name}"));
     }
+    lines.extend(filled(12, rows.iter().skip(names.len()).map(row)));
     lines.push("        ],".to_string());
     lines
 }
@@ -72,14 +87,9 @@ fn phase_rows(kernel: &Kernel, s: usize) -> Vec<String> {
 /// The information order, with a line above the phases of each product.
 pub fn order(order: &[usize], distances: &[u32]) -> Vec<String> {
     let mut lines = Vec::new();
-    let mut last = None;
-    for &phase in order {
-        let now = product(distances, phase);
-        if last != Some(now) {
-            lines.push(format!("    // product {now}"));
-            last = Some(now);
-        }
-        lines.push(format!("    {phase},"));
+    for phases in order.chunk_by(|&a, &b| product(distances, a) == product(distances, b)) {
+        lines.push(format!("    // product {}", product(distances, phases[0])));
+        lines.extend(filled(4, phases.iter().map(usize::to_string)));
     }
     lines.push("];".to_string());
     lines
