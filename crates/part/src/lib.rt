@@ -24,7 +24,7 @@ pub fn part_length(plan: Plan, mask: &[u8], n: usize) -> usize
 
 // Payload part: the first k/8 of the caller's bytes, the part itself.
 pub fn payload_part<'a, 'b>(plan: Plan, mask: &'b [u8], bytes: &'a [u8]) -> &'a [u8]
-    ensures { (result.now ≡ payload_part plan mask.now bytes.now) × (result.ref_ptr ≡ bytes.entry.ref_ptr) × (bytes.now ≡ bytes.now) × (mask.now ≡ mask.now) }
+    ensures { (result.now ≡ payload_part plan mask.now bytes.now) × (result.ref_ptr ≡ bytes.entry.ref_ptr) × (bytes.exit.now ≡ bytes.entry.now) × (mask.exit.now ≡ mask.entry.now) }
 {
     let n = part_length(plan, mask, bytes.len());
     &bytes[..n]
