@@ -10,7 +10,6 @@ use answer::Answer;
 use plan::Plan;
 use report::rows;
 use std::io;
-use std::io::BufRead;
 
 // The values that a request is made of.
 const VALUES: [i8; 6] = [127, -127, 1, -1, 0, -128];
@@ -188,6 +187,16 @@ fn run(rt: &impl Print, line: &[u8]) -> io::Result<()> {
     )
 }
 
+fn all_cases(rt: &impl Print, text: &[u8]) -> io::Result<()> {
+    let mut at: usize = 0;
+    while at < text.len() {
+        let end = rows::line_end(text, at);
+        run(rt, &text[at..end])?;
+        at = end + 1;
+    }
+    Ok(())
+}
+
 // Whether two times sixteen scores are the same.
 fn same(a: [i32; 16], b: [i32; 16]) -> bool {
     a == b
@@ -222,9 +231,9 @@ fn one_layer(rt: &impl Print, kernel: u8) -> io::Result<()> {
 }
 
 fn main(rt: HostRuntime) -> io::Result<()> {
-    for line in rt.reader().split(rt.alloc(), b'\n') {
-        run(&rt, &line?)?;
-    }
+    let mut text = [0u8; rows::ROOM];
+    let n = rows::read_full(&mut rt.reader(), &mut text)?;
+    all_cases(&rt, &text[..n])?;
     one_layer(&rt, 0)?;
     one_layer(&rt, 1)?;
     one_layer(&rt, 2)

@@ -5,7 +5,6 @@
 
 use answer::Answer;
 use report::rows;
-use std::io::BufRead;
 use std::{array, io};
 
 // What a buffer of twenty scores holds before a job: -901 to -920.
@@ -97,9 +96,18 @@ fn run(rt: &impl Print, line: &[u8]) -> io::Result<()> {
     followed(rt, line, row, front(&values, row[1]))
 }
 
-fn main(rt: HostRuntime) -> io::Result<()> {
-    for line in rt.reader().split(rt.alloc(), b'\n') {
-        run(&rt, &line?)?;
+fn all_cases(rt: &impl Print, text: &[u8]) -> io::Result<()> {
+    let mut at: usize = 0;
+    while at < text.len() {
+        let end = rows::line_end(text, at);
+        run(rt, &text[at..end])?;
+        at = end + 1;
     }
     Ok(())
+}
+
+fn main(rt: HostRuntime) -> io::Result<()> {
+    let mut text = [0u8; rows::ROOM];
+    let n = rows::read_full(&mut rt.reader(), &mut text)?;
+    all_cases(&rt, &text[..n])
 }

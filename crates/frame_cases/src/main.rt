@@ -9,7 +9,6 @@
 use answer::Answer;
 use plan::Plan;
 use report::rows;
-use std::io::BufRead;
 use std::{array, io};
 
 const TEXT: [u8; 12] = [78, 111, 115, 112, 114, 105, 100, 100, 97, 0, 255, 129];
@@ -192,9 +191,18 @@ fn run(rt: &impl Print, line: &[u8]) -> io::Result<()> {
     }
 }
 
-fn main(rt: HostRuntime) -> io::Result<()> {
-    for line in rt.reader().split(rt.alloc(), b'\n') {
-        run(&rt, &line?)?;
+fn all_cases(rt: &impl Print, text: &[u8]) -> io::Result<()> {
+    let mut at: usize = 0;
+    while at < text.len() {
+        let end = rows::line_end(text, at);
+        run(rt, &text[at..end])?;
+        at = end + 1;
     }
     Ok(())
+}
+
+fn main(rt: HostRuntime) -> io::Result<()> {
+    let mut text = [0u8; rows::ROOM];
+    let n = rows::read_full(&mut rt.reader(), &mut text)?;
+    all_cases(&rt, &text[..n])
 }

@@ -6,7 +6,6 @@
 
 use report::rows;
 use std::io;
-use std::io::BufRead;
 
 // The information mask of one byte.
 const MASK_1: [u8; 32] = [
@@ -53,9 +52,18 @@ fn run(rt: &impl Print, line: &[u8]) -> io::Result<()> {
     say(rt, line, rows::front(&input, c[0]))
 }
 
-fn main(rt: HostRuntime) -> io::Result<()> {
-    for line in rt.reader().split(rt.alloc(), b'\n') {
-        run(&rt, &line?)?;
+fn all_cases(rt: &impl Print, text: &[u8]) -> io::Result<()> {
+    let mut at: usize = 0;
+    while at < text.len() {
+        let end = rows::line_end(text, at);
+        run(rt, &text[at..end])?;
+        at = end + 1;
     }
     Ok(())
+}
+
+fn main(rt: HostRuntime) -> io::Result<()> {
+    let mut text = [0u8; rows::ROOM];
+    let n = rows::read_full(&mut rt.reader(), &mut text)?;
+    all_cases(&rt, &text[..n])
 }

@@ -10,7 +10,6 @@ use answer::Answer;
 use plan::Plan;
 use report::rows;
 use std::io;
-use std::io::BufRead;
 
 // The masks and words of the cases, by number.
 const WORDS: [[u64; 4]; 21] = [
@@ -285,9 +284,18 @@ fn run(rt: &impl Print, line: &[u8]) -> io::Result<()> {
     )
 }
 
-fn main(rt: HostRuntime) -> io::Result<()> {
-    for line in rt.reader().split(rt.alloc(), b'\n') {
-        run(&rt, &line?)?;
+fn all_cases(rt: &impl Print, text: &[u8]) -> io::Result<()> {
+    let mut at: usize = 0;
+    while at < text.len() {
+        let end = rows::line_end(text, at);
+        run(rt, &text[at..end])?;
+        at = end + 1;
     }
     Ok(())
+}
+
+fn main(rt: HostRuntime) -> io::Result<()> {
+    let mut text = [0u8; rows::ROOM];
+    let n = rows::read_full(&mut rt.reader(), &mut text)?;
+    all_cases(&rt, &text[..n])
 }

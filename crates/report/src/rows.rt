@@ -1,8 +1,45 @@
 // The cases of a test program, one to a line of its input: a label, and after the last colon the numbers. Words are passed over.
-ghost use Rattle.std.specs.Prelude.{◌≤◌, length};
+ghost use Rattle.std.specs.Prelude.{IfOk, ◌≤◌, length};
+
+use std::io;
+use std::io::Read;
+
+// How many bytes of its input a program reads at most.
+pub const ROOM: usize = 65536;
 
 // What a number has added to it where a minus sign stands before it: 2^40.
 const MINUS: u64 = 1099511627776;
+
+// Reads until the buffer is full or the input ends, and says how many bytes stand at its start.
+pub fn read_full(input: &mut impl Read, buffer: &mut [u8]) -> io::Result<usize>
+    ensures { IfOk result (λ n. n ≤ length buffer.new) }
+{
+    let mut done: usize = 0;
+    while done < buffer.len() {
+        let n = input.read(&mut buffer[done..])?;
+        if n == 0 {
+            break;
+        }
+        done += n;
+    }
+    Ok(done)
+}
+
+// The end of the line that begins at an index.
+pub fn line_end(text: &[u8], from: usize) -> usize
+    requires { from ≤ length text.now }
+    ensures low { from ≤ result }
+    ensures high { result ≤ length text.now }
+{
+    let mut i = from;
+    while i < text.len() {
+        if text[i] == b'\n' {
+            return i;
+        }
+        i += 1;
+    }
+    i
+}
 
 // The first byte of a line, or 0.
 pub fn first(line: &[u8]) -> u8 {
