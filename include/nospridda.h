@@ -36,7 +36,8 @@
  * 5.5 KiB of stack for one layer, 12.5 KiB for two and 63.6 KiB for three, frame
  * encode and frame undo 3.6 KiB, list decode 27.0 KiB, kernel follow 4.5 KiB, and
  * 2.6 KiB by the Hadamard engine, 2.2 KiB of each being the start of a thread
- * (measured for one kernel in all layers, not proved; see docs/BENCH.md).
+ * (measured for one kernel in all layers, with an earlier version of the kit;
+ * not proved, and not measured again since; see docs/BENCH.md).
  *
  * What the caller must keep, and nothing proves or looks at:
  *
