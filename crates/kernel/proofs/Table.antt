@@ -21,7 +21,7 @@ use Rattle.kernel.proofs.Solved.{F-inverse, solved, solution, invertible}
 
 -- ---- the kernels' rows
 
--- The v of row s: the row times F. F is its own inverse, so the row is v_f.
+-- The v of row s: the row times F. F is its own inverse, so the row is vF.
 unfoldable row_v : List ℕ → ℕ → List Bool
 row_v rows s = tabulate 16 (λ i. parity 16 (λ j. row_bit rows s j && F j i))
 
@@ -41,7 +41,7 @@ module _ (k s : ℕ) (lk : k < 3) (ls : s < 16) where
       (every-at 16 (λ s. same (symbols (relations k) (row_v (get_or table k []) s)) (unit 16 s))
       (every-at 3 (λ k. every 16 (λ s. same (symbols (relations k) (row_v (get_or table k []) s)) (unit 16 s))) rows-checked k lk) s ls)
 
-  -- and v_f is the row.
+  -- and vF is the row.
   row_word : (j : ℕ) → j < 16 → parity 16 (λ i. bit v i && F i j) ≡ row_bit (get_or table k []) s j
   unfolding row_v
   row_word j lj =

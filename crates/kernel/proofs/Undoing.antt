@@ -19,7 +19,7 @@ use Rattle.kernel.specs.Jobs.{is_kernel, checks, encoded_word, undone_symbols, k
 use Rattle.kernel.proofs.Solved.{solved, solution}
 
 module _ (k : ℕ) where
-  -- The word of the symbols that the relations give for v is v_f.
+  -- The word of the symbols that the relations give for v is vF.
   pub word-of-v : (v : List Bool) → length v ≡ 16 → (j : ℕ) → word_bit k (symbols (relations k) v) j ≡ parity 16 (λ i. bit v i && F i j)
   word-of-v = word-symbols 16 F F (relations k) (solved k) (solution k)
 

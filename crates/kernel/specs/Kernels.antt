@@ -1,4 +1,4 @@
--- The three kernels, in the paper's words: a word is c = v_f, and a kernel relates the symbols u to v. Assumes nothing.
+-- The three kernels, in the paper's words: a word is c = vF, and a kernel relates the symbols u to v. Assumes nothing.
 use Rattle.std.specs.Prelude.{Bool, List, [], ◌∷◌, ℕ, zero, suc}
 use Rattle.polar.specs.Code.{Code, symbols_in}
 use Rattle.polar.specs.Kernel.{arikan, Kernel}
@@ -21,7 +21,7 @@ relations (suc (suc k)) =
     (0 ∷ []) ∷ (1 ∷ []) ∷ (2 ∷ []) ∷ (3 ∷ []) ∷ (4 ∷ []) ∷ (8 ∷ []) ∷ (6 ∷ 9 ∷ []) ∷ (5 ∷ 6 ∷ 10 ∷ [])
     ∷ (6 ∷ []) ∷ (10 ∷ []) ∷ (7 ∷ []) ∷ (11 ∷ []) ∷ (12 ∷ []) ∷ (13 ∷ []) ∷ (14 ∷ []) ∷ (15 ∷ []) ∷ []
 
--- Bit j of the word of the symbols u: of v_f, for the v that the relations tie to u.
+-- Bit j of the word of the symbols u: of vF, for the v that the relations tie to u.
 abbrev pub word_bit : ℕ → List Bool → ℕ → Bool
 word_bit k u j = word_by F (relations k) u j
 

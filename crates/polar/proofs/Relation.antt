@@ -132,7 +132,7 @@ module _ (n : ℕ) (F G : ℕ → ℕ → Bool) (rs qs : List Relation) (k : Sol
   tied-symbols v e =
       one-v (tied rs (symbols rs v)) v (length-tied (symbols rs v)) e (symbols-tied (symbols rs v) (length_symbols rs v ∙ k.solves.count))
 
-  -- The word of the symbols of v is v_f.
+  -- The word of the symbols of v is vF.
   pub word-symbols : (v : List Bool) → length v ≡ n → (j : ℕ) → word_by F rs (symbols rs v) j ≡ parity n (λ i. bit v i && F i j)
   unfolding word_by
   word-symbols v e j =

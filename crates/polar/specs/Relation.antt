@@ -19,7 +19,7 @@ symbols rs v = map (λ r. sum_of r v) rs
 unfoldable pub tied : List Relation → List Bool → List Bool
 tied rs u = find (length rs) (λ v. same (symbols rs v) u)
 
--- Bit j of the word of the symbols u: of v_f, for that v.
+-- Bit j of the word of the symbols u: of vF, for that v.
 unfoldable pub word_by : (ℕ → ℕ → Bool) → List Relation → List Bool → ℕ → Bool
 word_by F rs u j = parity (length rs) (λ i. bit (tied rs u) i && F i j)
 
