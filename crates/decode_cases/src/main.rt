@@ -232,7 +232,7 @@ fn one_layer(rt: &impl Print, kernel: u8) -> io::Result<()> {
 
 fn main(rt: HostRuntime) -> io::Result<()> {
     let mut text = [0u8; rows::ROOM];
-    let n = rows::read_full(&mut rt.reader(), &mut text)?;
+    let n = rows::read_full(&mut rt.reader(), &mut text);
     all_cases(&rt, &text[..n])?;
     one_layer(&rt, 0)?;
     one_layer(&rt, 1)?;

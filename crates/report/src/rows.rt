@@ -1,7 +1,6 @@
 // The cases of a test program, one to a line of its input: a label, and after the last colon the numbers. Words are passed over.
-ghost use Rattle.std.specs.Prelude.{IfOk, ◌≤◌, length};
+ghost use Rattle.std.specs.Prelude.{◌≤◌, length};
 
-use std::io;
 use std::io::Read;
 
 // How many bytes of its input a program reads at most.
@@ -10,19 +9,19 @@ pub const ROOM: usize = 65536;
 // What a number has added to it where a minus sign stands before it: 2^40.
 const MINUS: u64 = 1099511627776;
 
-// Reads until the buffer is full or the input ends, and says how many bytes stand at its start.
-pub fn read_full(input: &mut impl Read, buffer: &mut [u8]) -> io::Result<usize>
-    ensures { IfOk result (λ n. n ≤ length buffer.new) }
+// Reads until the buffer is full, the input ends or a read fails, and says how many bytes stand at its start.
+pub fn read_full(input: &mut impl Read, buffer: &mut [u8]) -> usize
+    ensures { result ≤ length buffer.new }
 {
     let mut done: usize = 0;
     while done < buffer.len() {
-        let n = input.read(&mut buffer[done..])?;
+        let n = input.read(&mut buffer[done..]).unwrap_or(0);
         if n == 0 {
             break;
         }
         done += n;
     }
-    Ok(done)
+    done
 }
 
 // The end of the line that begins at an index.
