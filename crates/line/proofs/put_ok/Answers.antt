@@ -53,18 +53,3 @@ returns c =
     s.args.out.now a.put-head.new.out b.put_decimal-number.new.out n.put-first.new.out d.put_hexadecimal-bytes.new.out e.put.new.out
     (omega (arith, digits s, pairs s, s.requires.1))
     a.put-head.ensures b.put_decimal-number.ensures n.put-first.ensures d.put_hexadecimal-bytes.ensures e.put.ensures
-
--- LEFT BY THE SCRIPT
--- -- no goal like slice-aggregate-put
--- slice-aggregate-put : tie.Need-slice-aggregate-put
--- slice-aggregate-put c = search rules
-
--- LEFT BY THE SCRIPT
--- -- no goal like slice-aggregate-put-2
--- slice-aggregate-put-2 : tie.Need-slice-aggregate-put-2
--- slice-aggregate-put-2 c = search rules
-
--- LEFT BY THE SCRIPT
--- -- no goal like slice-aggregate-put-3
--- slice-aggregate-put-3 : tie.Need-slice-aggregate-put-3
--- slice-aggregate-put-3 c = search rules

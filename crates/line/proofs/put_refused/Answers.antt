@@ -63,18 +63,3 @@ returns c =
     s.args.out.now a.put-head.new.out b.put_decimal-number.new.out m.put-space.new.out d.put_decimal-place.new.out e.put.new.out
     (omega (arith, digits_3 n.result n.type_inv, digits-20 i.result i.type_inv, s.requires))
     a.put-head.ensures b.put_decimal-number.ensures m.put-space.ensures d.put_decimal-place.ensures e.put.ensures)
-
--- LEFT BY THE SCRIPT
--- -- no goal like slice-aggregate-put
--- slice-aggregate-put : tie.Need-slice-aggregate-put
--- slice-aggregate-put c = search rules
-
--- LEFT BY THE SCRIPT
--- -- no goal like slice-aggregate-put-2
--- slice-aggregate-put-2 : tie.Need-slice-aggregate-put-2
--- slice-aggregate-put-2 c = search rules
-
--- LEFT BY THE SCRIPT
--- -- no goal like slice-aggregate-put-3
--- slice-aggregate-put-3 : tie.Need-slice-aggregate-put-3
--- slice-aggregate-put-3 c = search rules
