@@ -313,7 +313,7 @@ pub fn values_from_marks(
     }
 }
 
-/// The word of kernel encode, 0 where it is refused: of `libbitwise_c.a`, which has kernel encode once more, so that this way and
+/// The word of kernel encode, 0 where it is refused: of `libbitwise.a`, which has kernel encode once more, so that this way and
 /// the next differ in the sum alone.
 pub fn word_by_rows(kernel: u8, symbols: u16) -> u16 {
     // Safe for every input: it takes numbers only.
