@@ -1,7 +1,8 @@
 -- What a job answers, by the paper's numbers, and what a buffer holds after it. Assumes nothing.
 use Rattle.std.specs.Prelude.{Bool, true, false, List, [], ◌∷◌, ◌++◌, ℕ, length, drop}
-use Rattle.answer.specs.declared.Answer.{Answer}
-use Rattle.answer.specs.declared.Answer.TheVariants.{Done, Word, Penalty, NoKernel, WrongLength, BadMask, WrongPayload, ShortOutput, ValueOutOfRange, NotFinite, WrongSize, FrozenOne, BadScale, WrongListSize, FewMarks, NoAgreeingPath, BadLayers}
+use Rattle.std.specs.Prelude.{Result, Ok, Err}
+use Rattle.answer.specs.declared.Refusal.{Refusal}
+use Rattle.answer.specs.declared.Refusal.TheVariants.{NoKernel, WrongLength, BadMask, WrongPayload, ShortOutput, ValueOutOfRange, NotFinite, WrongSize, FrozenOne, BadScale, WrongListSize, FewMarks, NoAgreeingPath, BadLayers}
 
 -- Accepted and done, accepted with a word or a penalty, or refused with the number and the place of a condition.
 pub data Verdict : Type 0 where
@@ -10,25 +11,37 @@ pub data Verdict : Type 0 where
   penalty : ℕ → Verdict
   refused : ℕ → ℕ → Verdict
 
--- The verdict of each answer. The numbers are those of the paper's turn-backs, its conditions for a refusal, and of the requests.
-abbrev pub verdict : Answer → Verdict
-verdict Done = done
-verdict (Word w) = word w
-verdict (Penalty p) = penalty p
-verdict NoKernel = refused 1 0
-verdict WrongLength = refused 2 0
-verdict BadMask = refused 3 0
-verdict WrongPayload = refused 4 0
-verdict ShortOutput = refused 5 0
-verdict (ValueOutOfRange i) = refused 6 i
-verdict (NotFinite i) = refused 7 i
-verdict WrongSize = refused 8 0
-verdict (FrozenOne i) = refused 9 i
-verdict BadScale = refused 10 0
-verdict WrongListSize = refused 11 0
-verdict FewMarks = refused 12 0
-verdict NoAgreeingPath = refused 13 0
-verdict BadLayers = refused 14 0
+-- The verdict of each refusal. The numbers are those of the paper's turn-backs, its conditions for a refusal, and of the requests.
+abbrev pub refusal : Refusal → Verdict
+refusal NoKernel = refused 1 0
+refusal WrongLength = refused 2 0
+refusal BadMask = refused 3 0
+refusal WrongPayload = refused 4 0
+refusal ShortOutput = refused 5 0
+refusal (ValueOutOfRange i) = refused 6 i
+refusal (NotFinite i) = refused 7 i
+refusal WrongSize = refused 8 0
+refusal (FrozenOne i) = refused 9 i
+refusal BadScale = refused 10 0
+refusal WrongListSize = refused 11 0
+refusal FewMarks = refused 12 0
+refusal NoAgreeingPath = refused 13 0
+refusal BadLayers = refused 14 0
+
+-- The verdict of a result: done,
+abbrev pub verdict : {X : Type 0} → Result X Refusal → Verdict
+verdict (Ok x) = done
+verdict (Err e) = refusal e
+
+-- or accepted with a word,
+abbrev pub word_verdict : Result ℕ Refusal → Verdict
+word_verdict (Ok w) = word w
+word_verdict (Err e) = refusal e
+
+-- or with a penalty.
+abbrev pub penalty_verdict : Result ℕ Refusal → Verdict
+penalty_verdict (Ok p) = penalty p
+penalty_verdict (Err e) = refusal e
 
 -- Its number, 0 if accepted.
 abbrev pub number_of : Verdict → ℕ

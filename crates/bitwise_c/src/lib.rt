@@ -5,18 +5,18 @@ ghost use Rattle.std.specs.Prelude.{◌≡◌};
 ghost use Rattle.answer.specs.Verdict.{word_of};
 ghost use Rattle.kernel.specs.Jobs.{kernel_encode};
 
-// The word of kernel encode, 0 if refused: by whole rows,
+/// The word of kernel encode by whole rows, 0 if refused.
 #[unsafe(no_mangle)]
 pub extern "C" fn nospridda_test_word_by_rows(kernel: u8, symbols: u16) -> u16
     ensures { result ≡ word_of (kernel_encode kernel symbols) }
 {
-    answer::word(kernel::kernel_encode(kernel, symbols))
+    kernel::kernel_encode(kernel, symbols).unwrap_or(0)
 }
 
-// and bit by bit.
+/// The word of kernel encode bit by bit, 0 if refused.
 #[unsafe(no_mangle)]
 pub extern "C" fn nospridda_test_word_by_bits(kernel: u8, symbols: u16) -> u16
     ensures { result ≡ word_of (kernel_encode kernel symbols) }
 {
-    answer::word(bitwise::encode_by_bits(kernel, symbols))
+    bitwise::encode_by_bits(kernel, symbols).unwrap_or(0)
 }

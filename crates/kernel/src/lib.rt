@@ -1,15 +1,17 @@
 // The three kernels: encode and undo, by sums of whole rows of constant tables.
+// A kernel is its number, 0 to 2: requests name it so, public functions take it so, and it indexes tables as it stands.
 #![tactic(auto)]
 
 ghost use Rattle.std.specs.Prelude.{◌≡◌, [], ◌<◌, get_or};
-ghost use Rattle.answer.specs.Verdict.{verdict};
+ghost use Rattle.answer.specs.Verdict.{word_verdict};
 ghost use Rattle.kernel.specs.Rows.{row_sum, table, inverse_table};
 ghost use Rattle.kernel.specs.Jobs.{is_kernel, is_pair, kernel_encode, kernel_undo};
 
-use answer::Answer;
+use answer::Refusal;
 
-// Row s of kernel k: the word with only symbol s set.
-const ROWS: [[u16; 16]; 3] = [
+// Row s of kernel k: the word with only symbol s set. This table and the next stay two, as in the definitions: one of pairs
+// would read both kinds of rows for either job.
+static ROWS: [[u16; 16]; 3] = [
     [
         0x8000, // kernel 0, u0
         0xc000, // kernel 0, u1
@@ -67,7 +69,7 @@ const ROWS: [[u16; 16]; 3] = [
 ];
 
 // Row j of the inverse of kernel k: the symbols of the word with only bit j set.
-const INVERSE_ROWS: [[u16; 16]; 3] = [
+static INVERSE_ROWS: [[u16; 16]; 3] = [
     [
         0x8000, // kernel 0, c0
         0xc000, // kernel 0, c1
@@ -124,7 +126,7 @@ const INVERSE_ROWS: [[u16; 16]; 3] = [
     ],
 ];
 
-// The rows of a kernel.
+/// The rows of a kernel.
 pub fn kernel_rows(kernel: u8) -> [u16; 16]
     requires { kernel < 3 }
     ensures { result ≡ get_or table kernel [] }
@@ -132,7 +134,7 @@ pub fn kernel_rows(kernel: u8) -> [u16; 16]
     ROWS[kernel as usize]
 }
 
-// The rows of its inverse.
+/// The rows of its inverse.
 pub fn inverse_rows(kernel: u8) -> [u16; 16]
     requires { kernel < 3 }
     ensures { result ≡ get_or inverse_table kernel [] }
@@ -140,54 +142,57 @@ pub fn inverse_rows(kernel: u8) -> [u16; 16]
     INVERSE_ROWS[kernel as usize]
 }
 
-// The sum of the rows that the bits of x choose. Every row is read, and one that is not chosen counts as 0, so that no branch is
-// needed. The bit is read here, from sixteen bits, and not by `word_bit`, which takes 32.
+/// The sum of the rows that the bits of x choose. Every row is read, and one that is not chosen counts as 0, so that no branch is
+/// needed. The bit is read here, from sixteen bits, and not by `word_bit`, which takes 32.
 pub fn row_sum(rows: [u16; 16], x: u16) -> u16
     ensures { result ≡ row_sum rows x }
 {
     let mut c: u16 = 0;
-    let mut s: usize = 0;
-    while s < 16 {
+    for s in 0..16 {
         let mut row = rows[s];
         if (x >> (15 - s)) % 2 == 0 {
             row = 0;
         }
-        c = c ^ row;
-        s += 1;
+        c ^= row;
     }
     c
 }
 
-// Whether there is a kernel of this number.
+/// Whether there is a kernel of this number.
+#[tactic(auto, unfolding(crate::specs::Jobs::is_kernel))]
 pub fn is_kernel(kernel: u8) -> bool
     ensures { result ≡ is_kernel kernel }
 {
     kernel < 3
 }
 
-// Whether there are kernels of both numbers.
+/// Whether there are kernels of both numbers.
+#[tactic(auto, unfolding(crate::specs::Jobs::is_pair))]
 pub fn is_pair(inner: u8, outer: u8) -> bool
     ensures { result ≡ is_pair inner outer }
 {
     is_kernel(inner) && is_kernel(outer)
 }
 
-// Kernel encode: the word of sixteen symbols.
-pub fn kernel_encode(kernel: u8, symbols: u16) -> Answer
-    ensures { verdict result ≡ kernel_encode kernel symbols }
+/// Kernel encode: the word of sixteen symbols.
+#[tactic(auto, unfolding(crate::specs::Jobs::checks, crate::specs::Jobs::is_kernel))]
+pub fn kernel_encode(kernel: u8, symbols: u16) -> Result<u16, Refusal>
+    ensures { word_verdict result ≡ kernel_encode kernel symbols }
 {
     if !is_kernel(kernel) {
-        return Answer::NoKernel;
+        return Err(Refusal::NoKernel);
     }
-    Answer::Word(row_sum(kernel_rows(kernel), symbols))
+    Ok(row_sum(kernel_rows(kernel), symbols))
 }
 
-// Kernel undo: the symbols of a word of sixteen bits.
-pub fn kernel_undo(kernel: u8, word: u16) -> Answer
-    ensures { verdict result ≡ kernel_undo kernel word }
+/// Kernel undo: the symbols of a word of sixteen bits.
+#[tactic(auto, unfolding(crate::specs::Jobs::checks, crate::specs::Jobs::is_kernel))]
+pub fn kernel_undo(kernel: u8, word: u16) -> Result<u16, Refusal>
+    ensures { word_verdict result ≡ kernel_undo kernel word }
 {
+    // No function that this job and the one above share: it would take the choice of rows, and be as long as they are.
     if !is_kernel(kernel) {
-        return Answer::NoKernel;
+        return Err(Refusal::NoKernel);
     }
-    Answer::Word(row_sum(inverse_rows(kernel), word))
+    Ok(row_sum(inverse_rows(kernel), word))
 }

@@ -4,14 +4,8 @@ use Rattle.answer.specs.Verdict.{word}
 use Rattle.kernel.specs.Rows.{row_sum}
 use Rattle.kernel.specs.Jobs.{encoded_word}
 use Rattle.kernel.proofs.Table.{encoded-rows}
-use Rattle.kernel.proofs.Checks.{kernel-lt, kernel-refused, kernel-passed}
+use Rattle.kernel.proofs.Checks.{kernel-lt, kernel-passed}
 use Rattle.bitwise.proofs.encode_by_bits.Goals as goal
-
-pub returns-then-not-is_kernel : goal.returns-then-not-is_kernel
-returns-then-not-is_kernel c = kernel-refused c.args.kernel _ (sym c.is_kernel.ensures ∙ c.if-not-is_kernel.true)
-
-pub kernel_rows-requires : goal.kernel_rows-requires
-kernel_rows-requires c = kernel-lt c.args.kernel (sym c.is_kernel.ensures ∙ c.if-not-is_kernel.false)
 
 pub returns : goal.returns
 returns c =

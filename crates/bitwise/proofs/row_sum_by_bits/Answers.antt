@@ -12,7 +12,7 @@ use Rattle.bitwise.proofs.row_sum_by_bits.Goals as goal
 
 pub loop-j-init : goal.loop-j-init
 unfolding number tabulate
-loop-j-init c = (search rules, refl)
+loop-j-init c = refl
 
 pub overflow_mul-c : goal.overflow_mul-c
 overflow_mul-c c =
@@ -29,10 +29,8 @@ overflow_add-c c =
 
 pub loop-j-preserved : goal.loop-j-preserved
 loop-j-preserved c =
-    let l = c.loop-j in (
-      search rules,
-      ap₂ (λ n b. 2 * n + bool_byte b) l.invariant.1 c.sum_bit.ensures ∙ sym (number-next _ l.j),
-    )
+    let l = c.loop-j in
+    ap₂ (λ n b. 2 * n + b) l.invariant (c.from.ensures ∙ ap bool_byte c.sum_bit.ensures) ∙ sym (number-next _ l.j)
 
 pub returns : goal.returns
 unfolding chosen_sum
@@ -40,4 +38,4 @@ returns c =
     let a = c.args in
     let l = c.loop-j in
     let e : l.j ≡ 16 = search rules in
-    l.invariant.1 ∙ ap (λ n. number (tabulate n (bit_of a.rows a.x))) e
+    l.invariant ∙ ap (λ n. number (tabulate n (bit_of a.rows a.x))) e

@@ -1,7 +1,7 @@
 use mathlib.Core.Path.{◌≡◌}
 use mathlib.Core.Bool.{Bool}
 use mathlib.Core.List.{List}
-use Prim.Native.Nat.{ℕ, ◌-◌, ◌≤◌}
+use Prim.Native.Nat.{ℕ}
 use Rattle.base.specs.Bit.{bit, tabulate}
 use Rattle.bits.specs.Packed.{bits, number}
 use Rattle.kernel.specs.Rows.{chosen_bit}
@@ -12,7 +12,4 @@ abbrev pub bit_of : List ℕ → ℕ → ℕ → Bool
 bit_of rows x = chosen_bit rows (bit (bits 16 x)) 16
 
 abbrev pub invariant-loop-j : goal.invariant-loop-j
-invariant-loop-j l = (l.j ≤ 16) × (l.c ≡ number (tabulate l.j (bit_of l.rows l.x)))
-
-abbrev pub decreases-loop-j : goal.decreases-loop-j
-decreases-loop-j l = 16 - l.j
+invariant-loop-j l = l.c ≡ number (tabulate l.j (bit_of l.rows l.x))

@@ -1,12 +1,8 @@
 use mathlib.Core.Path.{◌≡◌}
-use Prim.Native.Nat.{◌-◌, ◌≤◌}
 use Rattle.base.specs.Bit.{bit}
 use Rattle.bits.specs.Packed.{bits}
 use Rattle.kernel.specs.Rows.{chosen_bit}
 use Rattle.bitwise.proofs.sum_bit.Given as goal
 
 abbrev pub invariant-loop-s : goal.invariant-loop-s
-invariant-loop-s l = (l.s ≤ 16) × (l.sum ≡ chosen_bit l.rows (bit (bits 16 l.x)) l.s l.j)
-
-abbrev pub decreases-loop-s : goal.decreases-loop-s
-decreases-loop-s l = 16 - l.s
+invariant-loop-s l = l.sum ≡ chosen_bit l.rows (bit (bits 16 l.x)) l.s l.j

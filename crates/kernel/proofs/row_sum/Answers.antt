@@ -1,7 +1,6 @@
 -- `kernel::row_sum` meets its contract: after n turns c is the sum of the first n chosen rows. Assumes nothing.
 use mathlib.Core.Path.{ap, ◌∙◌}
-use mathlib.Core.Logic.{⊎_elim}
-use Prim.Native.Nat.{ℕ, ◌-◌, ◌/◌, ◌%◌, ◌^◌, ◌≤◌, ◌<◌}
+use Prim.Native.Nat.{ℕ, ◌-◌, ◌/◌, ◌%◌, ◌^◌}
 use native.Mathlib.Omega.{arith}
 use lib.Bits.{bit_xor, xor_lt, xor_zero_r}
 use mir.Val.{Fits}
@@ -11,7 +10,7 @@ use borrow.Author.Tests.{eq-eqb, ne_eqb}
 use Rattle.base.specs.Bit.{bit}
 use Rattle.bits.specs.Packed.{bits}
 use Rattle.bits.proofs.Packed.{bits-shift}
-use Rattle.kernel.proofs.Rows.{Summed, summed-none, summed-row, summed-skip, summed-all}
+use Rattle.kernel.proofs.Rows.{summed-none, summed-row, summed-skip, summed-all}
 use Rattle.kernel.proofs.row_sum.Goals as goal
 use Rattle.kernel.proofs.row_sum.Goals.{else-x-s-eq0, then-x-s-eq0}
 
