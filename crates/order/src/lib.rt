@@ -7,10 +7,10 @@ ghost use Rattle.answer.specs.Verdict.{verdict};
 ghost use Rattle.order.specs.Order.{order, information_bits};
 ghost use Rattle.order.specs.Jobs.{information_mask};
 
-use answer::Answer;
+use answer::Refusal;
 
 // The 256 phases by falling product of their rows' partial distances, equal products by falling phase.
-const ORDER: [u8; 256] = [
+static ORDER: [u8; 256] = [
     // product 256
     255,
     // product 128
@@ -50,10 +50,11 @@ const ORDER: [u8; 256] = [
 ];
 
 // The information order.
-fn information_order() -> [u8; 256]
-    ensures { result ≡ order }
+#[tactic(auto, unfolding(crate::specs::Order::order))]
+fn information_order() -> &'static [u8; 256]
+    ensures { result.now ≡ order }
 {
-    ORDER
+    &ORDER
 }
 
 // The mask of the first 8p phases of the information order.
@@ -61,28 +62,24 @@ fn information_bits(p: usize) -> [u8; 32]
     requires { p ≤ 32 }
     ensures { unpack result ≡ information_bits p }
 {
-    let phases = information_order();
-    let n = 8 * p;
     let mut mask = [0u8; 32];
-    let mut i: usize = 0;
-    while i < n {
-        bits::set_bit(&mut mask, phases[i] as usize);
-        i += 1;
+    for &phase in &information_order()[..8 * p] {
+        bits::set_bit(&mut mask, phase as usize);
     }
     mask
 }
 
-// Information mask: the mask for p bytes of payload.
-pub fn information_mask(p: usize, out: &mut [u8]) -> Answer
+/// Information mask: the mask for p bytes of payload.
+#[tactic(auto, unfolding(crate::specs::Jobs::information_mask, crate::specs::Jobs::information_checks))]
+pub fn information_mask(p: usize, out: &mut [u8]) -> Result<(), Refusal>
     ensures { information_mask p out.old ≡ (verdict result, out.new) }
 {
     if out.len() < 32 {
-        return Answer::ShortOutput;
+        return Err(Refusal::ShortOutput);
     }
     if p < 1 || 32 < p {
-        return Answer::WrongSize;
+        return Err(Refusal::WrongSize);
     }
-    let mask = information_bits(p);
-    out[..32].copy_from_slice(&mask);
-    Answer::Done
+    out[..32].copy_from_slice(&information_bits(p));
+    Ok(())
 }

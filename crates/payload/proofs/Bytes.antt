@@ -92,13 +92,16 @@ module _ (mask symbols : List ℕ) (i : ℕ) (h : i < length mask) (e : length s
 
   -- or it has one.
   pub frozen-some : (over (get_or mask i 0) (get_or symbols i 0) ≡ 0 → ⊥) → get_or symbols i 0 < 256
-      → frozen_one (unpack (drop i mask)) (unpack (drop i symbols)) ≡ count_leading_zeros 8 (over (get_or mask i 0) (get_or symbols i 0))
+      → (count_leading_zeros 8 (over (get_or mask i 0) (get_or symbols i 0)) < 8)
+      × (frozen_one (unpack (drop i mask)) (unpack (drop i symbols)) ≡ count_leading_zeros 8 (over (get_or mask i 0) (get_or symbols i 0)))
   frozen-some z f =
       let m = get_or mask i 0 in
       let u = get_or symbols i 0 in
       let g : over m u < 256 = omega (arith, and_le_l u (bit_xor u m)) in
       let t = frozen-byte m u g in
-      let top = leading_top 8 (over m u) (omega arith) g in
-      ap₂ frozen_one (unpack-next mask i h) (unpack-next symbols i (omega arith))
-      ∙ frozen-first (bits 8 m) _ (bits 8 u) _ (length-bits 8 u ∙ sym (length-bits 8 m)) (omega (arith, t, top.1, length-bits 8 m))
-      ∙ t
+      let top = leading_top 8 (over m u) (omega arith) g in (
+        omega (arith, top.1),
+        ap₂ frozen_one (unpack-next mask i h) (unpack-next symbols i (omega arith))
+            ∙ frozen-first (bits 8 m) _ (bits 8 u) _ (length-bits 8 u ∙ sym (length-bits 8 m)) (omega (arith, t, top.1, length-bits 8 m))
+            ∙ t,
+      )

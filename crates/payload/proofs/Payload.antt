@@ -7,6 +7,10 @@ use Prim.Native.Nat.{ℕ, zero, suc, ◌+◌, ◌*◌, ◌/◌, ◌%◌, ◌^◌
 use native.Mathlib.Nat.{mod-lt, le_antisymm, lt_of_not-le, le_of_suc-le-suc}
 use native.Mathlib.Numerals.{one-add}
 use native.Mathlib.Omega.{arith}
+use mir.Syntax.{w8}
+use mir.Val.{Fits}
+use Rattle.std.specs.List.{sum_by}
+use Rattle.std.proofs.lemmas.List.Sums.{sum_by-cons}
 use lib.Count
 use lib.Count.{ones_cat}
 use lib.ListN.{length, get_or, drop}
@@ -57,6 +61,15 @@ count_bits (suc n) x h =
     (count-digit (x / 2 ^ n) (shr_lt 1 n (rw one-add h)))
     (count_bits n (x % 2 ^ n) (mod-lt x (pow_pos n)) ∙ ap ones (bits-mod n x))
     ∙ sym (ones-cons (odd (x / 2 ^ n)) (bits n x))
+
+-- The machine's counts of bytes add up to the count of their bits.
+pub count_bytes : (s : List ℕ) → ((i : ℕ) → Fits w8 (get_or s i 0)) → sum_by lib.Count.ones s ≡ ones (unpack s)
+unfolding ones unpack
+count_bytes [] h = refl
+count_bytes (x ∷ s) h =
+    sum_by-cons lib.Count.ones x s
+    ∙ ap₂ ◌+◌ (count_bits 8 x (h 0).fits) (count_bytes s (λ i. h (suc i)))
+    ∙ sym (ones-append (bits 8 x) (unpack s))
 
 -- The bytes that are left to count are one byte and those after it.
 pub ones-next : (s : List ℕ) (i : ℕ) → i < length s → ones (unpack (drop i s)) ≡ ones (bits 8 (get_or s i 0)) + ones (unpack (drop (i + 1) s))

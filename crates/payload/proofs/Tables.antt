@@ -22,22 +22,22 @@ pub marks-le : (n m : ℕ) → ones (bits n m) ≤ n
 marks-le n m = omega (arith, ones-le (bits n m), length-bits n m)
 
 -- How many of four phases are marked.
-ones-at : (t : List ℕ) → t ≡ ones_table → (m : ℕ) → m < 16 → get_or t m 0 ≡ ones (bits 4 m)
+ones-at : (m : ℕ) → m < 16 → get_or ones_table m 0 ≡ ones (bits 4 m)
 unfolding ones_table
-ones-at t e m h = ap (λ t. get_or t m 0) e ∙ tabulate-at 16 (λ m. ones (bits 4 m)) m 0 h
+ones-at m h = tabulate-at 16 (λ m. ones (bits 4 m)) m 0 h
 
 -- They are no more than four.
-pub ones-four : (t : List ℕ) → t ≡ ones_table → (m : ℕ) → m < 16 → get_or t m 0 ≤ 4
-ones-four t e m h = omega (arith, ones-at t e m h, marks-le 4 m)
+pub ones-four : (m : ℕ) → m < 16 → get_or ones_table m 0 ≤ 4
+ones-four m h = omega (arith, ones-at m h, marks-le 4 m)
 
 -- An entry of a table with two indices.
 entry : (f : ℕ → ℕ → ℕ) (m x : ℕ) → m < 16 → x < 16 → get_or (get_or (tabulate 16 (λ m. tabulate 16 (f m))) m []) x 0 ≡ f m x
 entry f m x h g = ap (λ r. get_or r x 0) (tabulate-at 16 (λ m. tabulate 16 (f m)) m [] h) ∙ tabulate-at 16 (f m) x 0 g
 
 -- The symbols at the marked ones of four phases.
-gather-at : (t : List (List ℕ)) → t ≡ gather_table → (m u : ℕ) → m < 16 → u < 16 → get_or (get_or t m []) u 0 ≡ number (gather (bits 4 m) (bits 4 u))
+gather-at : (m u : ℕ) → m < 16 → u < 16 → get_or (get_or gather_table m []) u 0 ≡ number (gather (bits 4 m) (bits 4 u))
 unfolding gather_table
-gather-at t e m u h g = ap (λ t. get_or (get_or t m []) u 0) e ∙ entry (λ m u. number (gather (bits 4 m) (bits 4 u))) m u h g
+gather-at m u h g = entry (λ m u. number (gather (bits 4 m) (bits 4 u))) m u h g
 
 -- ---- eight phases
 
@@ -66,22 +66,22 @@ gather-halves m u =
     ∙ ap (λ k. number (gather a x) * 2 ^ k + number (gather b y)) (length-gather b y)
 
 -- By the tables, as the code looks them up.
-module _ (ns : List ℕ) (en : ns ≡ ones_table) (m : ℕ) (h : m < 256) where
-  pub marks-made : get_or ns (m / 16) 0 + get_or ns (m % 16) 0 ≡ ones (bits 8 m)
+module _ (m : ℕ) (h : m < 256) where
+  pub marks-made : get_or ones_table (m / 16) 0 + get_or ones_table (m % 16) 0 ≡ ones (bits 8 m)
   marks-made =
-      ap₂ ◌+◌ (ones-at ns en (m / 16) (omega arith)) (ones-at ns en (m % 16) (omega arith))
+      ap₂ ◌+◌ (ones-at (m / 16) (omega arith)) (ones-at (m % 16) (omega arith))
       ∙ sym (ap ones (halves m) ∙ ones-append (bits 4 (m / 16)) (bits 4 (m % 16)))
 
-  pub gather-made : (t : List (List ℕ)) → t ≡ gather_table → (u : ℕ) → u < 256
-      → get_or (get_or t (m / 16) []) (u / 16) 0 * 2 ^ get_or ns (m % 16) 0 % 256 + get_or (get_or t (m % 16) []) (u % 16) 0
+  pub gather-made : (u : ℕ) → u < 256
+      → get_or (get_or gather_table (m / 16) []) (u / 16) 0 * 2 ^ get_or ones_table (m % 16) 0 % 256 + get_or (get_or gather_table (m % 16) []) (u % 16) 0
       ≡ number (gather (bits 8 m) (bits 8 u))
-  gather-made t e u g =
+  gather-made u g =
       let a : ℕ = number (gather (bits 4 (m / 16)) (bits 4 (u / 16))) in
       let k = ones (bits 4 (m % 16)) in
       let la : a < 2 ^ 4 = lt_of_lt_of_le (gather-lt 4 (m / 16) (bits 4 (u / 16))) (pow_mono (marks-le 4 (m / 16))) in
       ap₂ (λ x y. x % 256 + y)
-      (ap₂ (λ x n. x * 2 ^ n) (gather-at t e (m / 16) (u / 16) (omega arith) (omega arith)) (ones-at ns en (m % 16) (omega arith)))
-      (gather-at t e (m % 16) (u % 16) (omega arith) (omega arith))
+      (ap₂ (λ x n. x * 2 ^ n) (gather-at (m / 16) (u / 16) (omega arith) (omega arith)) (ones-at (m % 16) (omega arith)))
+      (gather-at (m % 16) (u % 16) (omega arith) (omega arith))
       ∙ ap (λ x. x + number (gather (bits 4 (m % 16)) (bits 4 (u % 16))))
       (shl_exact {a = a} 4 k 8 la (omega (arith, marks-le 4 (m % 16))))
       ∙ sym (gather-halves m u)

@@ -10,14 +10,7 @@ ghost use Rattle.spread.specs.Spreading.{marks_before, mark_counts, next_part, n
 fn byte_or_zero(s: &[u8], i: usize) -> u8
     ensures { result ≡ slice_index s.now i }
 {
-    if i < s.len() { s[i] } else { 0 }
-}
-
-// Four bytes as a number, the first the most significant.
-fn big_endian(a: u8, b: u8, c: u8, d: u8) -> u32
-    ensures { result ≡ 65536 * (256 * a + b) + (256 * c + d) }
-{
-    65536 * (256 * (a as u32) + b as u32) + (256 * (c as u32) + d as u32)
+    s.get(i).copied().unwrap_or(0)
 }
 
 // The four bytes from byte i on, with 0 for those past the end. Where all four are there, one test is enough.
@@ -26,14 +19,14 @@ fn four_bytes(s: &[u8], i: usize) -> u32
     ensures { bits 32 result ≡ pad 32 (drop (8 * i) (unpack s.now)) }
 {
     if i + 3 < s.len() {
-        return big_endian(s[i], s[i + 1], s[i + 2], s[i + 3]);
+        return u32::from_be_bytes([s[i], s[i + 1], s[i + 2], s[i + 3]]);
     }
-    big_endian(
+    u32::from_be_bytes([
         byte_or_zero(s, i),
         byte_or_zero(s, i + 1),
         byte_or_zero(s, i + 2),
         byte_or_zero(s, i + 3),
-    )
+    ])
 }
 
 // The eight bytes from byte i on, with 0 for those past the end.
@@ -41,7 +34,7 @@ fn eight_bytes(s: &[u8], i: usize) -> u64
     requires { i ≤ 4096 }
     ensures { bits 64 result ≡ pad 64 (drop (8 * i) (unpack s.now)) }
 {
-    4294967296 * (four_bytes(s, i) as u64) + four_bytes(s, i + 4) as u64
+    ((four_bytes(s, i) as u64) << 32) + four_bytes(s, i + 4) as u64
 }
 
 // The eight bits from bit i on, with 0 for those past the end.
@@ -58,10 +51,8 @@ fn mark_counts(mask: &[u8], counts: &mut [u8])
     requires { length counts.old ≡ length mask.now }
     ensures { counts.new ≡ mark_counts mask.now }
 {
-    let mut i: usize = 0;
-    while i < mask.len() {
-        counts[i] = u8::count_ones(mask[i]) as u8;
-        i += 1;
+    for (i, c) in counts.iter_mut().enumerate() {
+        *c = mask[i].count_ones() as u8;
     }
 }
 
@@ -75,12 +66,10 @@ fn next_four(mask: &[u8], payload: &[u8], bytes: &mut [u8], i: usize, j: usize) 
     let q = j / 8;
     let x = eight_bytes(payload, q);
     let mut d = j % 8;
-    let mut r: usize = 0;
-    while r < 4 {
+    for r in 0..4 {
         let n = bytes[i + r];
         bytes[i + r] = ((x >> (56 - d)) % 256) as u8;
         d += n as usize;
-        r += 1;
     }
     8 * q + d
 }
@@ -91,13 +80,11 @@ fn next_rest(mask: &[u8], payload: &[u8], bytes: &mut [u8], start: usize, used: 
     requires used_value { (used ≡ marks_before mask.now start) × (bytes.old ≡ next_part mask.now (unpack payload.now) start) }
     ensures { bytes.new ≡ next_bytes mask.now (unpack payload.now) }
 {
-    let mut i = start;
     let mut j = used;
-    while i < mask.len() {
+    for i in start..mask.len() {
         let n = bytes[i];
         bytes[i] = next_byte(payload, j);
         j += n as usize;
-        i += 1;
     }
 }
 
@@ -106,13 +93,12 @@ fn next_bytes(mask: &[u8], payload: &[u8], bytes: &mut [u8])
     requires { (length mask.now ≤ 4096) × (bytes.old ≡ mark_counts mask.now) }
     ensures { bytes.new ≡ next_bytes mask.now (unpack payload.now) }
 {
-    let mut i: usize = 0;
-    let mut j: usize = 0;
-    while i + 4 <= mask.len() {
-        j = next_four(mask, payload, bytes, i, j);
-        i += 4;
+    let fours = mask.len() / 4;
+    let mut j = 0;
+    for g in 0..fours {
+        j = next_four(mask, payload, bytes, 4 * g, j);
     }
-    next_rest(mask, payload, bytes, i, j);
+    next_rest(mask, payload, bytes, 4 * fours, j);
 }
 
 // The symbols of eight phases: the next eight payload bits, deposited phase by phase.
@@ -121,15 +107,10 @@ fn deposit_byte(m: u8, p: u8) -> u8
 {
     let mut u: u8 = 0;
     let mut rest = p;
-    let mut i: usize = 0;
-    while i < 8 {
-        let mut x: u8 = 0;
-        if (m >> (7 - i)) % 2 == 1 {
-            x = rest;
-        }
+    for i in 0..8usize {
+        let x = if (m >> (7 - i)) % 2 == 1 { rest } else { 0 };
         u = (u << 1) + x / 128;
-        rest = std::num::wrapping_add_u8(rest, x);
-        i += 1;
+        rest = rest.wrapping_add(x);
     }
     u
 }
@@ -139,15 +120,13 @@ fn deposit(mask: &[u8], symbols: &mut [u8])
     requires { length symbols.old ≡ length mask.now }
     ensures { symbols.new ≡ deposited mask.now symbols.old }
 {
-    let mut i: usize = 0;
-    while i < mask.len() {
-        symbols[i] = deposit_byte(mask[i], symbols[i]);
-        i += 1;
+    for (i, s) in symbols.iter_mut().enumerate() {
+        *s = deposit_byte(mask[i], *s);
     }
 }
 
-// The symbols of a payload: its bits at the marked phases. In three passes, so that the first and the last can take several bytes
-// at once.
+/// The symbols of a payload: its bits at the marked phases. In three passes, so that the first and the last can take several bytes
+/// at once.
 pub fn spread(mask: &[u8], payload: &[u8], symbols: &mut [u8])
     requires mask_len_bound { length mask.now ≤ 4096 }
     requires mask_value { Payload.ones (unpack mask.now) ≡ 8 * length payload.now }

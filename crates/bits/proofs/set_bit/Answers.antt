@@ -1,7 +1,6 @@
 -- `bits::set_bit` meets its contract. Assumes nothing.
 use Prim.Native.Nat.{◌%◌}
 use native.Mathlib.Omega.{arith}
-use borrow.Author.Rules.{rules}
 use Rattle.bits.proofs.Packed.{bits-or, unpack-set}
 use Rattle.bits.proofs.set_bit.Goals as goal
 

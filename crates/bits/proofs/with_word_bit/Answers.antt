@@ -1,6 +1,5 @@
 -- `bits::with_word_bit` meets its contract. Assumes nothing.
 use native.Mathlib.Omega.{arith}
-use borrow.Author.Rules.{rules}
 use Rattle.bits.proofs.Packed.{bits-or}
 use Rattle.bits.proofs.with_word_bit.Goals as goal
 

@@ -1,7 +1,6 @@
 -- `bits::word_bit` meets its contract. Assumes nothing.
 use mathlib.Core.Path.{sym}
 use native.Mathlib.Omega.{arith}
-use borrow.Author.Rules.{rules}
 use Rattle.bits.proofs.Packed.{bits-shift}
 use Rattle.bits.proofs.word_bit.Goals as goal
 

@@ -1,35 +1,36 @@
--- `order::information_bits` meets its contract. Invariant: the first i phases of the order are marked. Assumes nothing.
-use mathlib.Core.Path.{◌≡◌, refl, ◌∙◌, ap, ap₂}
+-- `order::information_bits` meets its contract. Invariant: the phases of the order that the loop has passed are marked.
+-- Assumes nothing.
+use mathlib.Core.Path.{◌≡◌, ap, ap₂, ◌∙◌}
 use mathlib.Core.Bool.{true}
-use Prim.Native.Nat.{◌*◌}
+use Prim.Native.Nat.{◌*◌, ◌<◌}
 use native.Mathlib.Omega.{arith}
-use borrow.Author.Rules.{rules}
-use lib.ListN.{get_or, set}
+use lib.ListN.{length, get_or, set, take}
+use lib.Seq.{get_or-take, length-take-le}
 use Rattle.order.specs.Order.{order, information_bits}
-use Rattle.order.proofs.Order.{order-count, order-phase}
+use Rattle.order.proofs.Order.{order-count}
 use Rattle.order.proofs.Marks.{marks, marks-none, marks-next}
 use Rattle.order.proofs.information_bits.Goals as goal
+use Rattle.order.proofs.information_bits.Goals.{After-information_order}
 
-pub loop-i-init : goal.loop-i-init
-loop-i-init c = (search rules, refl, marks-none order)
+-- So many phases are marked.
+count : (c : After-information_order) → length (take (8 * c.args.p) c.information_order.result.now) ≡ 8 * c.args.p
+count c = length-take-le (8 * c.args.p) c.information_order.result.now (omega (arith, c.requires, ap length c.information_order.ensures, order-count))
 
-pub set_bit-requires : goal.set_bit-requires
-set_bit-requires c =
-    let l = c.loop-i in
-    omega (arith, order-phase l.i (omega arith), ap (λ s. get_or s l.i 0) c.information_order-phases.ensures)
+pub loop-phase-init : goal.loop-phase-init
+loop-phase-init c = marks-none order
 
-pub loop-i-preserved : goal.loop-i-preserved
-loop-i-preserved c =
-    let l = c.loop-i in
-    let o = c.information_order-phases in
-    let b = c.set_bit in (
-      search rules,
-      omega (arith, b.auto.s),
-      b.ensures ∙ ap₂ (λ u x. set u x true) l.invariant.2 (ap (λ s. get_or s l.i 0) o.ensures) ∙ marks-next order l.i (omega (arith, order-count)),
-    )
+pub loop-phase-preserved : goal.loop-phase-preserved
+loop-phase-preserved c =
+    let l = c.loop-phase in
+    let o = c.information_order in
+    let i : l.phase-index < 8 * c.args.p = omega (arith, count (goal.at.loop-phase-preserved c).After-information_order, c.loop-phase-test.true) in
+    c.set_bit.ensures
+    ∙ ap₂ (λ u x. set u x true) l.invariant (get_or-take (8 * c.args.p) o.result.now l.phase-index 0 i ∙ ap (λ s. get_or s l.phase-index 0) o.ensures)
+    ∙ marks-next order l.phase-index (omega (arith, order-count, c.requires, i))
 
 pub returns : goal.returns
 unfolding information_bits
 returns c =
-    let e : c.loop-i.i ≡ 8 * c.args.p = omega arith in
-    c.loop-i.invariant.2 ∙ ap (marks order) e
+    let l = c.loop-phase in
+    let e : l.phase-index ≡ 8 * c.args.p = omega (arith, count (goal.at.returns c).After-information_order, l.auto.phase-index-end, c.loop-phase-test.false) in
+    l.invariant ∙ ap (marks order) e

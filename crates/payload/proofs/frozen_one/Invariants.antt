@@ -1,13 +1,10 @@
 use mathlib.Core.Path.{◌≡◌}
-use Prim.Native.Nat.{◌+◌, ◌-◌, ◌*◌, ◌≤◌}
-use lib.ListN.{length, drop}
+use Prim.Native.Nat.{◌+◌, ◌*◌}
+use lib.ListN.{drop}
 use Rattle.bits.specs.Packed.{unpack}
 use Rattle.payload.specs.Payload.{frozen_one}
 use Rattle.payload.proofs.frozen_one.Given as goal
 
 abbrev pub invariant-loop-i : goal.invariant-loop-i
 invariant-loop-i l =
-    (l.i ≤ length l.mask) × (frozen_one (unpack l.mask) (unpack l.symbols) ≡ 8 * l.i + frozen_one (unpack (drop l.i l.mask)) (unpack (drop l.i l.symbols)))
-
-abbrev pub decreases-loop-i : goal.decreases-loop-i
-decreases-loop-i l = length l.mask - l.i
+    frozen_one (unpack l.mask) (unpack l.symbols) ≡ 8 * l.i + frozen_one (unpack (drop l.i l.mask)) (unpack (drop l.i l.symbols))

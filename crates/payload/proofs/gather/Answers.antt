@@ -12,9 +12,8 @@ use Rattle.base.specs.Bit.{tabulate}
 use Rattle.base.proofs.List.{filled, fill-next}
 use Rattle.bits.specs.Packed.{bits, number, unpack}
 use Rattle.payload.specs.Payload.{ones, gather}
-use Rattle.payload.specs.Tables.{ones_table, gather_table}
-use Rattle.bits.proofs.Packed.{length-unpack, byte_at, pack-bytes}
-use Rattle.payload.proofs.Payload.{ones-le, ones-next}
+use Rattle.bits.proofs.Packed.{byte_at, pack-bytes}
+use Rattle.payload.proofs.Payload.{ones-next}
 use Rattle.payload.proofs.Tables.{marks-le}
 use Rattle.payload.proofs.Bytes.{gather-turn, gather-store}
 use Rattle.payload.proofs.gather.Invariants.{all}
@@ -68,22 +67,8 @@ pub loop-i-init : goal.loop-i-init
 unfolding tabulate bits
 loop-i-init c = (search rules, search rules, refl, omega arith, refl, refl)
 
-pub gather_byte-g-requires : goal.gather_byte-g-requires
-unfolding ones_table gather_table tabulate bits number ones gather
-gather_byte-g-requires c = (refl, refl)
-
-pub marks-k-requires : goal.marks-k-requires
-unfolding ones_table tabulate bits ones
-marks-k-requires c = refl
-
-pub overflow_cast-held : goal.overflow_cast-held
-overflow_cast-held c = omega (arith, few (goal.at.overflow_cast-held c).After-marks-k)
-
 pub overflow_shl-held : goal.overflow_shl-held
 overflow_shl-held c = omega (arith, few (goal.at.overflow_shl-held c).After-marks-k)
-
-pub overflow_cast-held-in-loop-i : goal.overflow_cast-held-in-loop-i
-overflow_cast-held-in-loop-i c = omega (arith, small (goal.at.overflow_cast-held-in-loop-i c).After-marks-k)
 
 pub overflow_add-held : goal.overflow_add-held
 overflow_add-held c = omega (arith, (shifted (goal.at.overflow_add-held c).After-marks-k).0, (shifted (goal.at.overflow_add-held c).After-marks-k).1, small (goal.at.overflow_add-held c).After-marks-k)
@@ -91,19 +76,11 @@ overflow_add-held c = omega (arith, (shifted (goal.at.overflow_add-held c).After
 pub overflow_add-n : goal.overflow_add-n
 overflow_add-n c = omega (arith, few (goal.at.overflow_add-n c).After-marks-k)
 
-pub overflow_cast-payload : goal.overflow_cast-payload
-overflow_cast-payload c = omega (arith, few (goal.at.overflow_cast-payload c).After-marks-k)
-
 pub overflow_shr-payload : goal.overflow_shr-payload
 overflow_shr-payload c = omega (arith, few (goal.at.overflow_shr-payload c).After-marks-k)
 
 pub bounds-payload-j : goal.bounds-payload-j
 bounds-payload-j c = room (goal.at.bounds-payload-j c).After-marks-k c.if-n-ge8.true
-
-pub overflow_add-j : goal.overflow_add-j
-overflow_add-j c =
-    let s = c.args.mask.now in
-    omega (arith, c.loop-i.invariant.3, ones-le (unpack s), length-unpack s)
 
 pub loop-i-preserved : goal.loop-i-preserved
 loop-i-preserved c =

@@ -6,26 +6,23 @@ use Rattle.spread.proofs.deposit_byte.Goals as goal
 use Rattle.spread.proofs.deposit_byte.Goals.{else-m-i-eq1, then-m-i-eq1}
 
 pub loop-i-init : goal.loop-i-init
-loop-i-init c = (search rules, search rules, search rules, partly_none c.args.m c.args.p 0)
+loop-i-init c = (search rules, search rules, partly_none c.args.m c.args.p 0)
 
 pub loop-i-preserved : goal.loop-i-preserved
 loop-i-preserved c =
     let a = c.args in
     let l = c.loop-i in
     let b = bits-shift 7 a.m l.i (omega arith) in
-    let r = c.wrapping_add_u8-rest.ensures in
     (elim c.if-m-i-eq1.branch [
       | then-m-i-eq1 w ↦ (
-        search rules,
         omega arith,
         omega arith,
-        partly-marked a.m a.p l.u l.rest l.i (omega arith) l.invariant.3 (b ∙ eq-eqb _ _ w.if-m-i-eq1.true) l.invariant.2 _ _ (omega (arith, w.x-is)) (omega (arith, r, w.x-is)),
+        partly-marked a.m a.p l.u l.rest l.i (omega arith) l.invariant.2 (b ∙ eq-eqb _ _ w.if-m-i-eq1.true) l.invariant.1 _ _ (omega (arith, w.x-is)) (omega (arith, w.x-is)),
       )
       | else-m-i-eq1 w ↦ (
-        search rules,
         omega arith,
         omega arith,
-        partly-frozen a.m a.p l.u l.rest l.i (omega arith) l.invariant.3 (b ∙ ne_eqb _ _ w.if-m-i-eq1.false) _ _ (omega (arith, w.x-is)) (omega (arith, r, w.x-is)),
+        partly-frozen a.m a.p l.u l.rest l.i (omega arith) l.invariant.2 (b ∙ ne_eqb _ _ w.if-m-i-eq1.false) _ _ (omega (arith, w.x-is)) (omega (arith, w.x-is)),
       )
     ])
 
@@ -33,4 +30,4 @@ pub returns : goal.returns
 returns c =
     let a = c.args in
     let l = c.loop-i in
-    partly-all a.m a.p l.u l.rest l.i (search rules) l.invariant.1 l.invariant.3
+    partly-all a.m a.p l.u l.rest l.i (search rules) l.invariant.0 l.invariant.2

@@ -1,9 +1,6 @@
-use Rattle.std.proofs.Common.{◌-◌, ◌<◌, ◌≤◌}
+use Rattle.std.proofs.Common.{◌<◌}
 use Rattle.spread.proofs.Spreading.{Partly}
 use Rattle.spread.proofs.deposit_byte.Given as goal
 
 abbrev pub invariant-loop-i : goal.invariant-loop-i
-invariant-loop-i l = (l.i ≤ 8) × (l.u < 256) × (l.rest < 256) × Partly l.m l.p l.u l.rest l.i
-
-abbrev pub decreases-loop-i : goal.decreases-loop-i
-decreases-loop-i l = 8 - l.i
+invariant-loop-i l = (l.u < 256) × (l.rest < 256) × Partly l.m l.p l.u l.rest l.i

@@ -19,18 +19,11 @@ loop-r-init c =
     let mask = a.mask.now in
     let p = unpack a.payload.now in
     let z : a.i + 0 ≡ a.i = omega arith in (
-      search rules,
       next-length mask p a.bytes.now a.i (omega (arith, s.requires.i_in_bounds.0)) s.requires.j_value.1,
       omega arith,
       omega (arith, s.requires.j_value.0, ap (marks_before mask) z),
       s.requires.j_value.1 ∙ ap (next_part mask p) (sym z),
     )
-
-pub overflow_cast-d : goal.overflow_cast-d
-overflow_cast-d c = omega (arith, (c.slice_known-in-loop-r-1.given (c.args.i + c.loop-r.r)).fits)
-
-pub overflow_add-d : goal.overflow_add-d
-overflow_add-d c = omega (arith, c.loop-r.invariant.2, (c.slice_known-in-loop-r-1.given (c.args.i + c.loop-r.r)).fits)
 
 pub loop-r-preserved : goal.loop-r-preserved
 loop-r-preserved c =
@@ -45,28 +38,14 @@ loop-r-preserved c =
     let h : k < length mask = omega (arith, s.requires.i_in_bounds.0) in
     let e : a.i + (l.r + 1) ≡ k + 1 = omega arith in (
       search rules,
-      search rules,
-      omega (arith, l.invariant.2, next-count mask p l.bytes k h l.invariant.4, marks-le 8 (get_or mask k 0)),
-      omega (arith, next_marks mask p l.bytes k h l.invariant.4 (8 * q + l.d) l.invariant.3, ap (marks_before mask) e),
-      next-stored mask p l.bytes k h l.invariant.4 (8 * q + l.d) (x / 2 ^ (56 - l.d) % 256) l.invariant.3 (omega arith)
-          (bits-from 8 56 x l.d (drop (8 * q) p) (omega (arith, l.invariant.2)) c.eight_bytes-x.ensures ∙ ap (pad 8) (drop-drop l.d (8 * q) p))
+      omega (arith, l.invariant.1, next-count mask p l.bytes k h l.invariant.3, marks-le 8 (get_or mask k 0)),
+      omega (arith, next_marks mask p l.bytes k h l.invariant.3 (8 * q + l.d) l.invariant.2, ap (marks_before mask) e),
+      next-stored mask p l.bytes k h l.invariant.3 (8 * q + l.d) (x / 2 ^ (56 - l.d) % 256) l.invariant.2 (omega arith)
+          (bits-from 8 56 x l.d (drop (8 * q) p) (omega (arith, l.invariant.1)) c.eight_bytes-x.ensures ∙ ap (pad 8) (drop-drop l.d (8 * q) p))
           ∙ ap (next_part mask p) (sym e),
     )
 
 pub overflow_add-result : goal.overflow_add-result
 overflow_add-result c =
     let s = c in
-    omega (arith, c.loop-r.invariant.2, s.requires.j_value.0, marks-before-le s.args.mask.now s.args.i (omega (arith, s.requires.i_in_bounds.0)))
-
-pub shape_of-bytes : goal.shape_of-bytes
-shape_of-bytes c =
-    let s = c in
-    let a = s.args in
-    omega (arith, c.loop-r.invariant.1, next-length a.mask.now (unpack a.payload.now) a.bytes.now a.i (omega (arith, s.requires.i_in_bounds.0)) s.requires.j_value.1)
-
-pub returns : goal.returns
-returns c =
-    let a = c.args in
-    let l = c.loop-r in
-    let e : l.r ≡ 4 = search rules in
-    (l.invariant.4 ∙ ap (λ r. next_part a.mask.now (unpack a.payload.now) (a.i + r)) e, l.invariant.3 ∙ ap (λ r. marks_before a.mask.now (a.i + r)) e)
+    omega (arith, c.loop-r.invariant.1, s.requires.j_value.0, marks-before-le s.args.mask.now s.args.i (omega (arith, s.requires.i_in_bounds.0)))
