@@ -1,1 +1,3 @@
 pub mod Outside
+pub mod Taken
+pub mod Refused

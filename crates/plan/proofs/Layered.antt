@@ -1,12 +1,14 @@
 -- What a plan that is not refused has. Assumes nothing.
 use mathlib.Core.Path.{◌≡◌, refl, sym, ap, ◌∙◌}
 use mathlib.Core.Bool.{Bool, true, false, not, ◌&&◌}
+use mathlib.Core.List.{List, [], ◌∷◌}
 use Prim.Native.Nat.{ℕ, zero, suc, ◌-◌, ◌*◌, ◌^◌, ◌≤◌, ◌<◌}
 use native.Mathlib.Nat.{pow-succ'}
 use native.Mathlib.Omega.{arith}
 use borrow.Author.Tests.{not-false, ltb-false}
 use lib.Dec.{ltb, lit≤}
-use lib.ListN.{get_or}
+use lib.ListN.{length, get_or, take}
+use Rattle.std.specs.List.{list_all}
 use Rattle.base.specs.Bit.{every}
 use Rattle.base.proofs.Bool.{or-eq-false, every-at}
 use Rattle.polar.proofs.Layers.{extent-power}
@@ -64,21 +66,22 @@ bytes-few p h = omega (arith, power-few p.layers (layers-few p h))
 pub rows_few : (p : Plan) → bad_layers p ≡ false → 16 ^ (p.layers - 1) ≤ 256
 rows_few p h = omega (arith, bytes-few p h, bytes-rows p h)
 
--- ---- a test of all numbers below n
-pub every-not : (n : ℕ) (f : ℕ → Bool) (i : ℕ) → i < n → f i ≡ false → every n f ≡ false
-unfolding every
-every-not zero f i l e = absurd (omega arith)
-every-not (suc n) f zero l e = rw e
-every-not (suc n) f (suc i) l e = go (f zero) (every-not n (λ k. f (suc k)) i (omega arith) e)
-  where
-    go : (b : Bool) → every n (λ k. f (suc k)) ≡ false → (b && every n (λ k. f (suc k))) ≡ false
-    go true h = h
-    go false h = refl
+-- ---- the kernels of its layers
 
-pub every-all : (n : ℕ) (f : ℕ → Bool) → ((i : ℕ) → i < n → f i ≡ true) → every n f ≡ true
+all-every : (f : ℕ → Bool) (m : ℕ) (xs : List ℕ) → m ≤ length xs → list_all f (take m xs) ≡ every m (λ i. f (get_or xs i 0))
 unfolding every
-every-all zero f h = refl
-every-all (suc n) f h = rw (h zero (omega arith)) (every-all n (λ k. f (suc k)) (λ i l. h (suc i) (omega arith)))
+all-every f zero xs l = refl
+all-every f (suc m) [] l = absurd (omega arith)
+all-every f (suc m) (x ∷ xs) l = ap (λ b. f x && b) (all-every f m xs (omega arith))
+
+-- The test of the kernels of the first layers.
+pub kernels-all : (p : Plan) (m : ℕ) → m ≡ p.layers → p.layers ≤ length p.kernels → list_all is_kernel (take m p.kernels) ≡ not (bad_kernels p)
+unfolding bad_kernels
+kernels-all p m e l = rw e (all-every is_kernel p.layers p.kernels l ∙ go (every p.layers (λ i. is_kernel (get_or p.kernels i 0))))
+  where
+    go : (b : Bool) → b ≡ not (not b)
+    go true = refl
+    go false = refl
 
 -- ---- a test of a plan in the code: what its outcome says of the condition
 

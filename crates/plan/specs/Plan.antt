@@ -1,6 +1,7 @@
 -- The plan of a frame, and its code. Assumes nothing.
-use Rattle.std.specs.Prelude.{Bool, not, ◌||◌, ℕ, ◌/◌, ◌^◌, ltb, get_or}
+use Rattle.std.specs.Prelude.{Bool, not, ◌||◌, List, [], ◌∷◌, ℕ, ◌/◌, ◌^◌, ltb, get_or}
 use Rattle.base.specs.Bit.{every}
+use Rattle.answer.specs.Verdict.{Check, condition}
 use Rattle.polar.specs.Code.{Code}
 use Rattle.polar.specs.Kernel.{Kernel}
 use Rattle.polar.specs.Frame.{layers}
@@ -15,6 +16,10 @@ bad_layers p = ltb p.layers 1 || ltb 3 p.layers
 -- Condition 1: the kernel number of one of the m layers is not 0, 1 or 2. Those of unused layers are ignored.
 unfoldable pub bad_kernels : Plan → Bool
 bad_kernels p = not (every p.layers (λ i. is_kernel (get_or p.kernels i 0)))
+
+-- The checks of a plan, in checking order.
+abbrev pub plan_checks : Plan → List Check
+plan_checks p = condition 14 (bad_layers p) ∷ condition 1 (bad_kernels p) ∷ []
 
 -- The kernel of layer i; layer 0 is the innermost.
 abbrev pub plan_kernel : Plan → ℕ → Kernel

@@ -13,7 +13,7 @@ shifted (suc (suc (suc zero))) l = refl
 shifted (suc (suc (suc (suc m)))) l = absurd (omega arith)
 
 pub overflow_shl-result : goal.overflow_shl-result
-overflow_shl-result c = omega (arith, layers-few _ c.requires)
+overflow_shl-result c = omega (arith, layers-few _ c.requires, c.from.ensures)
 
 pub returns : goal.returns
-returns c = shifted _ (layers-few _ c.requires)
+returns c = rw c.from.ensures (shifted _ (layers-few _ c.requires))
