@@ -1,17 +1,20 @@
 -- Laws of the first value outside the range. Assumes nothing.
 use mathlib.Core.Path.{◌≡◌, refl, sym, ap, ap₂, ◌∙◌}
-use mathlib.Core.Bool.{Bool, true, false}
+use mathlib.Core.Bool.{Bool, true, false, cond, not}
 use mathlib.Core.List.{List, [], ◌∷◌, ◌++◌}
 use Prim.Native.Nat.{ℕ, zero, suc, ◌+◌, ◌≤◌, ◌<◌}
 use native.Mathlib.Nat.{zero-add, le_trans}
 use native.Mathlib.Numerals.{add-one}
 use native.Mathlib.Decide.{dec_lt}
 use native.Mathlib.Omega.{arith}
-use borrow.Author.Tests.{leb-true, leb-false}
-use lib.Dec.{leb}
+use borrow.Author.Tests.{leb-true, leb-false, ltb-true, ltb-false}
+use lib.Dec.{leb, ltb}
 use lib.IntN.{ℤ, pos, nat_abs}
 use lib.ListN.{length, get_or, take, drop, length-drop, take-append-drop, get_or-eq_default}
 use lib.Seq.{drop-cons, drop-length, drop-drop, length-take-le, get_or-take, get_or-drop, ext_get_or}
+use Rattle.std.specs.Prelude.{None, Some}
+use Rattle.std.specs.List.{position, position_or_len}
+use Rattle.base.specs.Place.{FoundBelow}
 use Rattle.folds.specs.Range.{first_outside}
 
 -- ---- what the number says of the values
@@ -79,6 +82,31 @@ is-outside limit y ys t = ap (λ c. elim c [ true ↦ suc (first_outside limit y
 is-inside : (limit : ℕ) (y : ℤ) (ys : List ℤ) → leb (nat_abs y) limit ≡ true → first_outside limit (y ∷ ys) ≡ suc (first_outside limit ys)
 unfolding first_outside
 is-inside limit y ys t = ap (λ c. elim c [ true ↦ suc (first_outside limit ys) | false ↦ 0 ]) t
+
+-- The position of the first value outside is their number.
+outside-position : (limit : ℕ) (ys : List ℤ) → position_or_len (λ y. ltb limit (nat_abs y)) ys ≡ first_outside limit ys
+unfolding first_outside
+outside-position limit [] = refl
+outside-position limit (y ∷ ys) = go (ltb limit (nat_abs y)) (leb (nat_abs y) limit) refl refl (outside-position limit ys)
+  where
+    go : (t c : Bool) → ltb limit (nat_abs y) ≡ t → leb (nat_abs y) limit ≡ c → position_or_len (λ y. ltb limit (nat_abs y)) ys ≡ first_outside limit ys
+        → cond (not t) (1 + position_or_len (λ y. ltb limit (nat_abs y)) ys) 0 ≡ elim c [ true ↦ suc (first_outside limit ys) | false ↦ 0 ]
+    go true false d e r = refl
+    go false true d e r = omega arith
+    go true true d e r = absurd (omega (arith, ltb-true limit (nat_abs y) d, leb-true (nat_abs y) limit e))
+    go false false d e r = absurd (omega (arith, ltb-false limit (nat_abs y) d, leb-false (nat_abs y) limit e))
+
+-- What the search by position answers.
+pub position-outside : (limit : ℕ) (ys : List ℤ)
+    → FoundBelow (length ys) (first_outside limit ys) (position (λ y. ltb limit (nat_abs y)) ys)
+position-outside limit ys = go (ltb (position_or_len (λ y. ltb limit (nat_abs y)) ys) (length ys)) refl
+  where
+    n : ℕ
+    n = position_or_len (λ y. ltb limit (nat_abs y)) ys
+
+    go : (t : Bool) → ltb n (length ys) ≡ t → FoundBelow (length ys) (first_outside limit ys) (cond t (Some n) None)
+    go true e = (ltb-true n (length ys) e, sym (outside-position limit ys))
+    go false e = omega (arith, ltb-false n (length ys) e, outside-position limit ys, outside-le limit ys)
 
 -- The search has passed i values, and goes on in the others.
 abbrev pub Passed : ℕ → List ℤ → ℕ → Type 0

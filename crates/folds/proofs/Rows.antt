@@ -1,6 +1,6 @@
 -- Laws of the greatest of a row of scores, and of the least of some numbers. Assumes nothing.
 use mathlib.Core.Path.{◌≡◌, refl, sym, ap, ap₂, ◌∙◌}
-use mathlib.Core.Bool.{Bool, true, false, false≢true}
+use mathlib.Core.Bool.{Bool, true, false, cond, false≢true}
 use mathlib.Core.List.{List, ◌∷◌}
 use Prim.Native.Nat.{ℕ, zero, suc, ◌+◌, ◌-◌, ◌*◌, ◌^◌, ◌≤◌, ◌<◌, min}
 use native.Mathlib.Decide.{dec_le}
@@ -13,6 +13,7 @@ use lib.IntN.{ℤ, pos, negsuc, neg_ℤ}
 use lib.ListN.{get_or}
 use lib.Pow.{pow_pos, high}
 use lib.Signed.{lt_z, ◌≤ℤ◌, le_z_yes, lt_z_yes, lt_z_no, ≤ℤ_refl, <ℤ-≤ℤ_trans, clash_ℤ}
+use Rattle.std.specs.Int.{int_max}
 use Rattle.base.specs.Bit.{odd}
 use Rattle.bits.specs.Packed.{bits}
 use Rattle.bits.proofs.Packed.{bits-mod}
@@ -107,27 +108,25 @@ greatest-one row =
       top = λ w l. let e : w ≡ 0 = omega arith in rw e (≤ℤ_refl (get_or row 0 (pos 0)));
     }
 
-module _ (row : List ℤ) (i : ℕ) (m : ℤ) (h : IsGreatest row i m) where
-  -- A score that is greater than the greatest before it becomes the greatest.
-  pub greatest-new : lt_z m (get_or row i (pos 0)) ≡ true → IsGreatest row (i + 1) (get_or row i (pos 0))
-  greatest-new t =
-      record {
-        place = i;
-        inside = omega arith;
-        had = refl;
-        top = λ w l. below_more _ i (λ k q. le_trans _ m _ (h.top k q) (lt-le m _ t)) (≤ℤ_refl _) w l;
-      }
+-- The greater of the greatest of some scores and the next score is the greatest of one more.
+pub greatest-next : (row : List ℤ) (i : ℕ) (m r : ℤ) → IsGreatest row i m → r ≡ int_max m (get_or row i (pos 0)) → IsGreatest row (i + 1) r
+greatest-next row i m r h e = rw e (go (lt_z x m) refl)
+  where
+    x : ℤ
+    x = get_or row i (pos 0)
 
-  -- A score that is not greater leaves the greatest as it was.
-  pub greatest-old : lt_z m (get_or row i (pos 0)) ≡ false → IsGreatest row (i + 1) m
-  greatest-old t =
-      let l = h.inside in
-      record {
-        place = h.place;
-        inside = omega arith;
-        had = h.had;
-        top = λ w l. below_more _ i h.top (lt_z_no (rw t tt)) w l;
-      }
+    go : (t : Bool) → lt_z x m ≡ t → IsGreatest row (i + 1) (cond t m x)
+    go true t =
+        let l = h.inside in
+        record { place = h.place; inside = omega arith; had = h.had; top = λ w l. below_more _ i h.top (lt-le x m t) w l }
+    go false t =
+        let no : m ≤ℤ x = lt_z_no (rw t tt) in
+        record {
+          place = i;
+          inside = omega arith;
+          had = refl;
+          top = λ w l. below_more _ i (λ k q. le_trans _ m _ (h.top k q) no) (≤ℤ_refl x) w l;
+        }
 
 le-neg : (a b : ℕ) → neg_ℤ (pos b) ≤ℤ neg_ℤ (pos a) → a ≤ b
 le-neg zero b h = omega arith

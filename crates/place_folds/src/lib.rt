@@ -1,198 +1,157 @@
 // Folds of the costs of sixteen places onto four, and of two places onto one.
 #![tactic(auto)]
 
-ghost use Rattle.std.specs.Prelude.{◌≡◌, Bool, true, false, ℕ, ◌+◌, ◌-◌, ◌≤◌, ◌<◌, min, pos, neg_ℤ};
+ghost use Rattle.std.specs.Prelude.{◌≡◌, Bool, ℕ, ◌+◌, ◌≤◌, ◌<◌, min};
 ghost use Rattle.base.specs.Bit;
 ghost use Rattle.bits.specs.Packed.{bits};
+ghost use Rattle.polar.specs.Code.{Costs};
 ghost use Rattle.polar.specs.Fold.{free_fold, known_fold};
+ghost use Rattle.folds.proofs.Pairs.{free-le, known-le};
+ghost use Rattle.place_folds.specs.Folds.{bit_fold};
 ghost use Rattle.folds.specs.Range.{value_limit};
 ghost use Rattle.folds.specs.Rows.{costs_of, Within, select, Pays};
 
-// The lesser of two numbers.
-fn lesser(a: u32, b: u32) -> u32
-    ensures { result ≡ min a b }
-{
-    if a < b { a } else { b }
-}
-
-// The same by their difference, in a form that the compiler turns into vector instructions.
-fn lower(a: u32, b: u32) -> u32
-    requires { (a ≤ 33554432) × (b ≤ 33554432) }
-    ensures { result ≡ min a b }
-{
-    (b as i32 + negative_difference(a, b)) as u32
-}
-
-// The difference of two numbers where it is negative, else 0.
-fn negative_difference(a: u32, b: u32) -> i32
-    requires { (a ≤ 33554432) × (b ≤ 33554432) }
-    ensures { result ≡ neg_ℤ (pos (b - a)) }
-{
-    let d = a as i32 - b as i32;
-    if d < 0 { d } else { 0 }
-}
-
-// What a place pays for bit 0 and for bit 1.
-#[derive(Clone, Copy)]
+/// What a place pays for bit 0 and for bit 1.
+#[derive(Clone, Copy, Debug, PartialEq, Eq)]
 pub struct PlaceCosts {
     pub zero: u32,
     pub one: u32,
 }
 
-// One of two numbers.
-fn pick(c: bool, x: u32, y: u32) -> u32
-    ensures { result ≡ select x y c }
+// What a place pays for the bit and 0, and for the bit and 1.
+fn turned(bit: bool, p: PlaceCosts) -> PlaceCosts
+    ensures { (result.zero ≡ select p.zero p.one bit) × (result.one ≡ select p.one p.zero bit) }
 {
-    if c { y } else { x }
+    if bit {
+        PlaceCosts {
+            zero: p.one,
+            one: p.zero,
+        }
+    } else {
+        p
+    }
 }
 
 // Two places folded onto one, the first one's bit being known.
 fn known(bit: bool, p: PlaceCosts, q: PlaceCosts) -> PlaceCosts
     requires { (p.zero ≤ 16777216) × (p.one ≤ 16777216) × (q.zero ≤ 16777216) × (q.one ≤ 16777216) }
-    ensures { (result.zero ≡ select p.zero p.one bit + q.zero) × (result.one ≡ select p.one p.zero bit + q.one) }
+    ensures { (result.zero ≡ select p.zero p.one bit + q.zero)
+        × (result.one ≡ select p.one p.zero bit + q.one) }
 {
+    let first = turned(bit, p);
     PlaceCosts {
-        zero: pick(bit, p.zero, p.one) + q.zero,
-        one: pick(bit, p.one, p.zero) + q.one,
+        zero: first.zero + q.zero,
+        one: first.one + q.one,
     }
 }
 
-// Two places folded onto one, the second one's bit being free, for many places side by side.
+// Two places folded onto one, the second one's bit being free.
 fn free(p: PlaceCosts, q: PlaceCosts) -> PlaceCosts
     requires { (p.zero ≤ 16777216) × (p.one ≤ 16777216) × (q.zero ≤ 16777216) × (q.one ≤ 16777216) }
-    ensures { (result.zero ≡ min (p.zero + q.zero) (p.one + q.one)) × (result.one ≡ min (p.one + q.zero) (p.zero + q.one)) }
+    ensures { (result.zero ≡ min (p.zero + q.zero) (p.one + q.one))
+        × (result.one ≡ min (p.one + q.zero) (p.zero + q.one)) }
 {
     PlaceCosts {
-        zero: lower(p.zero + q.zero, p.one + q.one),
-        one: lower(p.one + q.zero, p.zero + q.one),
+        zero: (p.zero + q.zero).min(p.one + q.one),
+        one: (p.one + q.zero).min(p.zero + q.one),
     }
 }
 
-// The same for one place alone.
-fn free_one(p: PlaceCosts, q: PlaceCosts) -> PlaceCosts
+/// Two places folded onto one, where the first one's bit may be known.
+pub fn fold_pair(bit: Option<bool>, p: PlaceCosts, q: PlaceCosts) -> PlaceCosts
     requires { (p.zero ≤ 16777216) × (p.one ≤ 16777216) × (q.zero ≤ 16777216) × (q.one ≤ 16777216) }
-    ensures { (result.zero ≡ min (p.zero + q.zero) (p.one + q.one)) × (result.one ≡ min (p.one + q.zero) (p.zero + q.one)) }
+    ensures { (n i : ℕ) (c : Costs) → Pays c i p.zero p.one → Pays c (n + i) q.zero q.one
+        → Pays (bit_fold bit n c) i result.zero result.one }
 {
-    PlaceCosts {
-        zero: lesser(p.zero + q.zero, p.one + q.one),
-        one: lesser(p.one + q.zero, p.zero + q.one),
+    match bit {
+        Some(bit) => known(bit, p, q),
+        None => free(p, q),
     }
 }
 
-// Two places folded onto one, where the first one's bit may be known.
-pub fn fold_pair(first_known: bool, bit: bool, p: PlaceCosts, q: PlaceCosts) -> PlaceCosts
-    requires { (p.zero ≤ 16777216) × (p.one ≤ 16777216) × (q.zero ≤ 16777216) × (q.one ≤ 16777216) }
-    ensures { (first_known ≡ true → (result.zero ≡ select p.zero p.one bit + q.zero) × (result.one ≡ select p.one p.zero bit + q.one)) × (first_known ≡ false → (result.zero ≡ min (p.zero + q.zero) (p.one + q.one)) × (result.one ≡ min (p.one + q.zero) (p.zero + q.one))) }
-{
-    if first_known {
-        known(bit, p, q)
-    } else {
-        free_one(p, q)
-    }
-}
-
-// A place of two rows.
-fn place(rows: &[[u32; 16]; 2], i: usize) -> PlaceCosts
-    requires { i < 16 }
+/// A place of two rows.
+pub fn place<const N: usize>(rows: &[[u32; N]; 2], i: usize) -> PlaceCosts
+    requires { i < N }
     ensures { Pays (costs_of rows.now) i result.zero result.one }
 {
-    let zero = rows[0][i];
-    let one = rows[1][i];
-    PlaceCosts { zero, one }
+    PlaceCosts {
+        zero: rows[0][i],
+        one: rows[1][i],
+    }
 }
 
-// Place i of the second half, where the bits of the first half's word stand in word.
-fn known_at(rows: &[[u32; 16]; 2], word: u32, i: usize) -> PlaceCosts
+/// One fold of places onto half as many, place i of the first half with place i of the second.
+pub trait Fold {
+    // What is left on n places of the costs of 2n.
+    ghost folded: { Self → ℕ → Costs → Costs };
+
+    // The bit of place i of the first half, where it is known.
+    fn bit(&self, i: usize) -> Option<bool>
+        requires { i < 8 }
+        ensures { (n : ℕ) (c : Costs) (b : Bool)
+            → bit_fold result n c i b ≡ folded self.now n c i b };
+
+    // A fold at most doubles a bound.
+    ghost doubles: { (s : Self) (n : ℕ) (c : Costs) (m : ℕ)
+        → ((j : ℕ) (b : Bool) → j < n + n → c j b ≤ m) → (j : ℕ) (b : Bool) → j < n
+        → folded s n c j b ≤ m + m };
+}
+
+/// The second half is free.
+#[derive(Clone, Copy, Debug, PartialEq, Eq)]
+pub struct SecondFree;
+
+impl Fold for SecondFree {
+    ghost folded = { λ s. free_fold };
+
+    ghost doubles = { λ s. free-le };
+
+    fn bit(&self, i: usize) -> Option<bool> {
+        None
+    }
+}
+
+/// The first half is known: its word's bits stand in word, from bit `from` on.
+#[derive(Clone, Copy, Debug, PartialEq, Eq)]
+pub struct FirstKnown {
+    pub word: u32,
+    pub from: usize,
+    ghost within: { from ≤ 8 },
+}
+
+impl Fold for FirstKnown {
+    ghost folded = { λ s n. known_fold n (λ j. Bit.bit (bits 16 s.word) (s.from + j)) };
+
+    ghost doubles = { λ s n. known-le n (λ j. Bit.bit (bits 16 s.word) (s.from + j)) };
+
+    fn bit(&self, i: usize) -> Option<bool> {
+        Some(bits::word_bit(self.word, self.from + i))
+    }
+}
+
+// Place i of the eight that a fold of sixteen leaves.
+fn half<A: Fold>(first: &A, rows: &[[u32; 16]; 2], i: usize) -> PlaceCosts
     requires { (i < 8) × Within value_limit rows.now }
-    ensures { Pays (known_fold 8 (Bit.bit (bits 16 word)) (costs_of rows.now)) i result.zero result.one }
+    ensures { Pays (A.folded first.now 8 (costs_of rows.now)) i result.zero result.one }
 {
-    known(bits::word_bit(word, i), place(rows, i), place(rows, 8 + i))
+    fold_pair(first.bit(i), place(rows, i), place(rows, 8 + i))
 }
 
-// Place i of the first half, the second half being free.
-fn free_at(rows: &[[u32; 16]; 2], i: usize) -> PlaceCosts
-    requires { (i < 8) × Within value_limit rows.now }
-    ensures { Pays (free_fold 8 (costs_of rows.now)) i result.zero result.one }
-{
-    free(place(rows, i), place(rows, 8 + i))
-}
-
-// Two folds of sixteen places, both with the second half free.
-pub fn free_free(rows: &[[u32; 16]; 2]) -> [[u32; 4]; 2]
+/// The four places that two folds of sixteen leave.
+pub fn two_folds<A: Fold, B: Fold>(first: &A, second: &B, rows: &[[u32; 16]; 2]) -> [[u32; 4]; 2]
     requires { Within value_limit rows.now }
-    ensures { (j : ℕ) (b : Bool) → j < 4 → costs_of result j b ≡ free_fold 4 (free_fold 8 (costs_of rows.now)) j b }
+    ensures { (j : ℕ) (b : Bool) → j < 4
+        → costs_of result j b
+        ≡ B.folded second.now 4 (A.folded first.now 8 (costs_of rows.now)) j b }
 {
     let mut out = [[0u32; 4]; 2];
-    let mut i: usize = 0;
-    while i < 4 {
-        let p = free_at(rows, i);
-        let q = free_at(rows, 4 + i);
-        let folded = free(p, q);
-        let zero = folded.zero;
-        let one = folded.one;
-        out[0][i] = zero;
-        out[1][i] = one;
-        i += 1;
-    }
-    out
-}
-
-// The same with the first half known the second time.
-pub fn free_known(rows: &[[u32; 16]; 2], word: u32) -> [[u32; 4]; 2]
-    requires { Within value_limit rows.now }
-    ensures { (j : ℕ) (b : Bool) → j < 4 → costs_of result j b ≡ known_fold 4 (Bit.bit (bits 16 word)) (free_fold 8 (costs_of rows.now)) j b }
-{
-    let mut out = [[0u32; 4]; 2];
-    let mut i: usize = 0;
-    while i < 4 {
-        let p = free_at(rows, i);
-        let q = free_at(rows, 4 + i);
-        let folded = known(bits::word_bit(word, i), p, q);
-        let zero = folded.zero;
-        let one = folded.one;
-        out[0][i] = zero;
-        out[1][i] = one;
-        i += 1;
-    }
-    out
-}
-
-// The same with the first half known the first time.
-pub fn known_free(rows: &[[u32; 16]; 2], word: u32) -> [[u32; 4]; 2]
-    requires { Within value_limit rows.now }
-    ensures { (j : ℕ) (b : Bool) → j < 4 → costs_of result j b ≡ free_fold 4 (known_fold 8 (Bit.bit (bits 16 word)) (costs_of rows.now)) j b }
-{
-    let mut out = [[0u32; 4]; 2];
-    let mut i: usize = 0;
-    while i < 4 {
-        let p = known_at(rows, word, i);
-        let q = known_at(rows, word, 4 + i);
-        let folded = free(p, q);
-        let zero = folded.zero;
-        let one = folded.one;
-        out[0][i] = zero;
-        out[1][i] = one;
-        i += 1;
-    }
-    out
-}
-
-// The same with the first half known both times.
-pub fn known_known(rows: &[[u32; 16]; 2], word: u32) -> [[u32; 4]; 2]
-    requires { Within value_limit rows.now }
-    ensures { (j : ℕ) (b : Bool) → j < 4 → costs_of result j b ≡ known_fold 4 (λ i. Bit.bit (bits 16 word) (8 + i)) (known_fold 8 (Bit.bit (bits 16 word)) (costs_of rows.now)) j b }
-{
-    let mut out = [[0u32; 4]; 2];
-    let mut i: usize = 0;
-    while i < 4 {
-        let p = known_at(rows, word, i);
-        let q = known_at(rows, word, 4 + i);
-        let folded = known(bits::word_bit(word, 8 + i), p, q);
-        let zero = folded.zero;
-        let one = folded.one;
-        out[0][i] = zero;
-        out[1][i] = one;
-        i += 1;
+    for i in 0..4 {
+        let p = half(first, rows, i);
+        let q = half(first, rows, 4 + i);
+        // The bit last: where two pairs of folds begin alike, the compiler joins their beginnings and makes no vectors.
+        let folded = fold_pair(second.bit(i), p, q);
+        out[0][i] = folded.zero;
+        out[1][i] = folded.one;
     }
     out
 }

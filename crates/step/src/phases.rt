@@ -1,7 +1,7 @@
 // The tables of the phases, certified against the relations in windows/proofs/Tables.antt.
 
-// For each phase of each kernel: the highest v that the relations up to it use, and 1 where they reach no further than before.
-pub const SHAPES: [[[u8; 2]; 16]; 3] = [
+/// For each phase of each kernel: the highest v that the relations up to it use, and 1 where they reach no further than before.
+pub static SHAPES: [[[u8; 2]; 16]; 3] = [
     [
         [0, 0], // kernel 0, phase 0
         [1, 0], // kernel 0, phase 1
@@ -58,8 +58,8 @@ pub const SHAPES: [[[u8; 2]; 16]; 3] = [
     ],
 ];
 
-// The rows that turn symbols and window bits into the words of a path, or into the number of the path before.
-pub const PATHS: [[[u16; 16]; 16]; 3] = [
+/// The rows that turn symbols and window bits into the words of a path, or into the number of the path before.
+pub static PATHS: [[[u16; 16]; 16]; 3] = [
     [
         [
             0x8000, // kernel 0, phase 0, u0

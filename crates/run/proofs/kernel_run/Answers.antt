@@ -2,9 +2,7 @@
 -- Assumes nothing.
 use mir.Syntax.{w32}
 use mathlib.Core.Path.{◌≡◌, refl, ap, ◌∙◌}
-use mathlib.Core.List.{[]}
-use Prim.Native.Nat.{◌-◌, ◌≤◌, ◌<◌}
-use lib.ListN.{take, get_or}
+use lib.ListN.{take}
 use mir.Facts.{to_z-of_z}
 use Rattle.base.specs.Bit.{bit}
 use Rattle.bits.specs.Packed.{bits}
@@ -13,23 +11,14 @@ use Rattle.polar.specs.Code.{score}
 use Rattle.folds.specs.Range.{value_limit}
 use Rattle.folds.specs.Rows.{costs_of}
 use Rattle.kernel.specs.Kernels.{kernel_code}
-use Rattle.windows.proofs.Following.{range, difference-asks, difference-is}
+use Rattle.windows.proofs.Following.{difference-asks, difference-is}
 use Rattle.run.specs.Run.{symbol_by}
 use Rattle.run.proofs.Phases.{no-phase, phase-turn, run_of}
 use borrow.Author.Rules.{rules}
 use Rattle.run.proofs.kernel_run.Goals as goal
 use Rattle.run.proofs.kernel_run.Goals.{After-difference-score, After-step-next, After-symbol_of-own}
 
--- What each phase finds: the numbers of the phase are in range,
-in-phase : (c : After-step-next) → (let s = c.loop-s.s in
-    let shape = get_or c.args.shapes.now s [] in
-    (s ≤ get_or shape 0 0) × (get_or shape 0 0 < 16) × (get_or shape 0 0 - s ≤ 4))
-in-phase c =
-    let l = c.loop-s in
-    let r = c in
-    range r.args.kernel r.requires.kernel_bound c.cost_rows-costs.result (c.cost_rows-costs.ensures.within value_limit c.requires.values_len.1) l.symbols _ c.requires.shapes_value.0 l.s (search rules)
-
--- and the difference is the score.
+-- The difference of a phase is its score.
 found : (c : After-difference-score) → (let l = c.loop-s in
     c.difference-score.result ≡ score (kernel_code c.args.kernel)
     (costs_of c.cost_rows-costs.result) (take l.s (bits 16 l.symbols)))
@@ -52,29 +41,12 @@ owned c =
 pub loop-s-init : goal.loop-s-init
 loop-s-init c = no-phase c.args.kernel (costs_of c.cost_rows-costs.result) _ _ (bits 16 0) (length-bits 16 0) (zero-at 16) _ _ _ refl
 
-pub step-next-requires : goal.step-next-requires
-step-next-requires c =
-    let l = c.loop-s in
-    let r = c in record {
-      kernel_bound = (r.requires.kernel_bound, search rules);
-      shape_value = (
-        ap (λ t. get_or t l.s []) c.requires.shapes_value.0,
-        ap (λ t. get_or t l.s []) c.requires.shapes_value.1,
-      );
-      within = c.cost_rows-costs.ensures.within value_limit c.requires.values_len.1;
-      kept = l.invariant.kept-so;
-    }
-
-pub path_count-requires : goal.path_count-requires
-path_count-requires c = in-phase (goal.at.path_count-requires c).After-step-next
-
-pub difference-score-requires : goal.difference-score-requires
-difference-score-requires c =
+pub difference-score-requires-clause-by_index : goal.difference-score-requires-clause-by_index
+difference-score-requires-clause-by_index c =
     let l = c.loop-s in
     let r = c in
-    let k = difference-asks r.args.kernel r.requires.kernel_bound c.cost_rows-costs.result (c.cost_rows-costs.ensures.within value_limit c.requires.values_len.1) l.symbols _ c.requires.shapes_value.0 l.s (search rules)
-    c.step-next.result c.step-next.ensures c.path_count.result c.path_count.ensures in
-    record { n_nonzero = k.0; by_index = k.1 }
+    (difference-asks r.args.kernel r.requires.kernel_bound c.cost_rows-costs.result (c.cost_rows-costs.ensures.within value_limit c.requires.values_len.1) l.symbols _ c.requires.shapes_value.0 l.s (search rules)
+    c.step-next.result c.step-next.ensures c.path_count.result c.path_count.ensures).1
 
 pub loop-s-preserved : goal.loop-s-preserved
 loop-s-preserved c =

@@ -1,4 +1,3 @@
-use Prim.Native.Nat.{◌-◌}
 use Rattle.base.specs.Bit.{bit}
 use Rattle.bits.specs.Packed.{bits}
 use Rattle.folds.specs.Rows.{costs_of}
@@ -8,6 +7,3 @@ use Rattle.run.proofs.kernel_run.Given as goal
 abbrev pub invariant-loop-s : goal.invariant-loop-s
 invariant-loop-s l =
     AfterPhases l.kernel (costs_of l.costs) (bit (bits 16 l.free)) (bit (bits 16 l.given)) l.s (bits 16 l.symbols) l.scores l.rows l.own
-
-abbrev pub decreases-loop-s : goal.decreases-loop-s
-decreases-loop-s l = 16 - l.s

@@ -2,7 +2,7 @@
 use mir.Val.{SFits}
 use mir.Syntax.{w32}
 use mathlib.Core.Path.{◌≡◌, refl, ap, ◌∙◌}
-use mathlib.Core.Bool.{true, false}
+use mathlib.Core.Bool.{true}
 use lib.IntN.{pos}
 use lib.ListN.{get_or}
 use mir.Facts.{to_z-of_z}
@@ -18,9 +18,6 @@ one-is c =
     let z = c.before.before.before in
     let a = z.args in
     own-word a.table.now a.symbols a.phase a.high a.w _ _ _ z.requires.phase_le_high.0 z.requires.phase_le_high.1 c.path_word-first.ensures refl c.with_own-second.ensures
-
-pub bounds-row-first : goal.bounds-row-first
-bounds-row-first c = rw c.path_word-first.ensures (c.requires.w_bound false)
 
 pub bounds-row-second : goal.bounds-row-second
 bounds-row-second c = rw (one-is (goal.at.bounds-row-second c).After-with_own-second) (c.requires.w_bound true)

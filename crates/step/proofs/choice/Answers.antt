@@ -7,18 +7,12 @@ use native.Mathlib.Omega.{arith}
 use lib.ListN.{take}
 use Rattle.bits.specs.Packed.{bits}
 use Rattle.windows.specs.Paths.{Choice}
-use Rattle.windows.proofs.Shifts.{window-lt, shifts-lt, shifts-bits}
+use Rattle.windows.proofs.Shifts.{shifts-lt, shifts-bits}
 use Rattle.step.proofs.choice.Goals as goal
 
 -- The own symbol 0 adds nothing.
 no_own : (a k c : ℕ) → a + 0 * 2 ^ k % 2 ^ 32 + c ≡ a + c
 no_own a k c = rw (zero-mul (2 ^ k)) (omega arith)
-
-pub overflow_cast-rest : goal.overflow_cast-rest
-overflow_cast-rest c = omega (arith, window-lt _ _ _ c.requires.1 c.requires.2)
-
-pub overflow_add-result : goal.overflow_add-result
-overflow_add-result c = omega (arith, shifts-lt _ _ _ false _ c.requires.0 c.requires.1 c.ranges.symbols.fits c.requires.2)
 
 pub returns : goal.returns
 returns c = (

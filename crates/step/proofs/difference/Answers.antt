@@ -9,10 +9,10 @@ overflow_sub-result c =
     let s = g in
     let rows = s.args.rows.now in
     let n = s.args.n in
-    search (less-fits, zero-small rows n s.requires.by_index, one-small rows n s.requires.by_index, g.greatest-zero.ensures, c.greatest-one.ensures)
+    search (less-fits, zero-small rows n s.requires.by_index, one-small rows n s.requires.by_index, g.greatest.ensures, c.greatest-2.ensures)
 
 pub returns : goal.returns
 returns c =
     let g = c in
     let s = g in
-    is-difference s.args.rows.now s.args.n s.requires.by_index g.greatest-zero.result c.greatest-one.result g.greatest-zero.ensures c.greatest-one.ensures
+    is-difference s.args.rows.now s.args.n s.requires.by_index g.greatest.result c.greatest-2.result g.greatest.ensures c.greatest-2.ensures

@@ -8,8 +8,5 @@ use Rattle.step.proofs.fresh_rows.Given as goal
 
 abbrev pub invariant-loop-w : goal.invariant-loop-w
 invariant-loop-w l =
-    (l.w ≤ l.paths) × (l.paths ≡ 2 ^ (l.high - l.phase)) × (l.paths ≤ 16)
+    (l.paths ≡ 2 ^ (l.high - l.phase)) × (l.paths ≤ 16)
     × Filled (pos 0) 16 l.w (λ w b. neg_ℤ (pos (path_least l.costs l.high (path_word_of l.table l.symbols l.phase l.high false w) b))) l.out
-
-abbrev pub decreases-loop-w : goal.decreases-loop-w
-decreases-loop-w l = l.paths - l.w

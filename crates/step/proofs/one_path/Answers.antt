@@ -10,21 +10,8 @@ use mir.Val.{SFits}
 use borrow.Author.Rules.{rules}
 use Rattle.folds.proofs.Fill.{filled_none, fill-both}
 use Rattle.windows.specs.Paths.{path_word_of, path_least}
-use Rattle.windows.proofs.Levels.{four-small, path-least}
+use Rattle.windows.proofs.Levels.{path-least}
 use Rattle.step.proofs.one_path.Goals as goal
-
-pub path_word-word-requires : goal.path_word-word-requires
-path_word-word-requires c =
-    let a = c.args in
-    let p = c.requires.phase_value in
-    let e : a.high - a.phase ≡ 0 = omega (arith, p.0) in
-    (omega (arith, p.0), p.1, rw e (omega arith))
-
-pub best_of-best-requires : goal.best_of-best-requires
-best_of-best-requires c =
-    let f = c.two_folds-four in
-    let s = c in
-    (s.requires.phase_value.1, four-small s.args.costs.now f.result s.args.high c.path_word-word.result f.ensures s.requires.within)
 
 pub returns : goal.returns
 returns c =

@@ -1,5 +1,4 @@
 -- `step::step` meets its contract. Assumes nothing.
-use mathlib.Core.Path.{sym}
 use Rattle.folds.specs.Rows.{row_of}
 use Rattle.windows.proofs.Stepping.{in-range, fresh_step, small-step, again-step}
 use Rattle.step.proofs.step.Goals as goal
@@ -19,31 +18,12 @@ returns-then-shape-ne0 c =
     again-step a.kernel a.phase p.kernel_bound.0 p.kernel_bound.1 a.symbols a.shape a.table.now p.shape_value.0 p.shape_value.1 a.costs.now (row_of a.rows a.chosen) c.again_rows.result
     c.if-shape-ne0.true p.kept c.again_rows.ensures
 
-pub one_path-requires : goal.one_path-requires
-one_path-requires c =
-    let a = c.args in
-    let p = c.requires in
-    let r = in-range a.kernel a.phase p.kernel_bound.0 p.kernel_bound.1 a.symbols a.shape p.shape_value.0 in
-    record {
-      phase_value = (sym c.if-high-phase.true, r.1);
-      within = p.within;
-    }
-
 pub returns-then-high-phase : goal.returns-then-high-phase
 returns-then-high-phase c =
     let a = c.args in
     let p = c.requires in
     fresh_step a.kernel a.phase p.kernel_bound.0 p.kernel_bound.1 a.symbols a.shape a.table.now p.shape_value.0 p.shape_value.1 a.costs.now c.one_path.result
     c.if-shape-ne0.false c.one_path.ensures
-
-pub fresh_rows-requires : goal.fresh_rows-requires
-fresh_rows-requires c =
-    let a = c.args in
-    let p = c.requires in
-    record {
-      phase_le_high = in-range a.kernel a.phase p.kernel_bound.0 p.kernel_bound.1 a.symbols a.shape p.shape_value.0;
-      within = p.within;
-    }
 
 pub returns : goal.returns
 returns c =
