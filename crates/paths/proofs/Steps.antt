@@ -25,7 +25,7 @@ Seen x o r =
     (g a : Bool)
     → (get_or r (2 * digit g + digit a) (pos 0) ≡ place_at x o a) × (get_or r (4 + (2 * digit g + digit a)) (pos 0) ≡ place_at x (2 + o) (a ⊕ g))
 
--- `free_quarter`,
+-- `free_half`,
 abbrev pub FreeOnto : List ℤ → List ℤ → Type 0
 FreeOnto p r = (i : ℕ) → i < 4 → get_or r i (pos 0) ≡ free_value (get_or p i (pos 0)) (get_or p (4 + i) (pos 0))
 

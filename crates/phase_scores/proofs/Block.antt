@@ -5,7 +5,7 @@ use mathlib.Core.List.{List, [], ◌∷◌, ◌++◌}
 use Prim.Native.Nat.{ℕ, zero, suc, ◌+◌, ◌<◌}
 use native.Mathlib.Omega.{arith}
 use lib.IntN.{ℤ, pos, negsuc, ◌+ℤ◌}
-use lib.ListN.{length, get_or}
+use lib.ListN.{length}
 use Rattle.base.specs.Bit.{◌⊕◌, bit}
 use Rattle.base.proofs.Bool.{⊕-assoc}
 use Rattle.polar.specs.Code.{channel, best_score, score}
@@ -15,11 +15,8 @@ use Rattle.values.specs.Arikan.{arikan_word, arikan_score}
 use Rattle.values.specs.Path.{path_bits, place_at, value8, value9, value10, value11, after_at, value12}
 use Rattle.values.proofs.Arikan.{score-is, best-next}
 use Rattle.values.proofs.Whole.{value-pay}
+use Rattle.phase_scores.specs.Quarter.{at, PlacesOf}
 use Rattle.phase_scores.proofs.Tests.{next_bit, next-word1}
-
--- Channel value i.
-abbrev pub at : List ℤ → ℕ → ℤ
-at ys i = get_or ys i (pos 0)
 
 -- The best score of the words whose v begin with p.
 abbrev pub best : List ℤ → List Bool → ℤ
@@ -43,12 +40,6 @@ gain-turned true false (negsuc n) = refl
 gain-turned true true (pos zero) = refl
 gain-turned true true (pos (suc n)) = refl
 gain-turned true true (negsuc n) = refl
-
--- x has the places of a block under both bits, by the word w of the known v; o: the bit of the second of two places is the other one.
-abbrev pub PlacesOf : List ℤ → (ℕ → Bool) → Bool → List ℤ → Type 0
-PlacesOf ys w o x =
-    (b : Bool) (i : ℕ) → i < 4
-    → place_at x i b ≡ free_value (known_value (w i ⊕ b) (at ys i) (at ys (8 + i))) (known_value (w (4 + i) ⊕ (b ⊕ o)) (at ys (4 + i)) (at ys (12 + i)))
 
 -- t has them under both bits of the next word as well, which is n but for the path's bits and q.
 abbrev pub AfterOf : List ℤ → (ℕ → Bool) → Bool → (ℕ → Bool) → Bool → List ℤ → Type 0

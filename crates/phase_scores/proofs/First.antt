@@ -18,7 +18,8 @@ use Rattle.values.proofs.Whole.{value-pay, eight-known, four-known}
 use Rattle.hadamard.specs.Transform.{int_sum}
 use Rattle.hadamard.proofs.Sums.{int_sum-cong, int_sum-neg, int_sum-pos}
 use Rattle.phase_scores.proofs.Tests.{path-word1, four-word2}
-use Rattle.phase_scores.proofs.Block.{at, best}
+use Rattle.phase_scores.specs.Quarter.{at}
+use Rattle.phase_scores.proofs.Block.{best}
 
 -- Minus what is paid and a sum of more is what is gained less.
 paid-more : (a n : ℕ) (f : ℕ → ℕ) → neg_ℤ (pos (a + sum n f)) ≡ neg_ℤ (pos a) +ℤ int_sum n (λ i. neg_ℤ (pos (f i)))

@@ -16,7 +16,7 @@ use Rattle.polar.specs.Window.{path_of}
 use Rattle.kernel.specs.Kernels.{kernel_code}
 use Rattle.windows.specs.Windows.{windows, solutions, solution}
 use Rattle.values.specs.Arikan.{arikan_score}
-use Rattle.phase_scores.proofs.Block.{at}
+use Rattle.phase_scores.specs.Quarter.{at}
 use Rattle.phase_scores.proofs.Paths.{single-score}
 
 -- Symbols that are single v.

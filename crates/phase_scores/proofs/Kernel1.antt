@@ -13,7 +13,8 @@ use Rattle.values.specs.Value.{greater, turned, best_of}
 use Rattle.values.specs.Arikan.{arikan_score}
 use Rattle.values.specs.Path.{entry, pair_best, four_best, row_best, RowOf}
 use Rattle.phase_scores.proofs.Lists.{path1-1, path1-2, path1-3, path1-4, path1-5, path1-6, path1-7, path1-8, path1-9, path1-10, path1-11, path1-12, path1-13, path1-14, path1-15, path1-16}
-use Rattle.phase_scores.proofs.Block.{at, best}
+use Rattle.phase_scores.specs.Quarter.{at}
+use Rattle.phase_scores.proofs.Block.{best}
 use Rattle.phase_scores.proofs.Kernel2.{best2-8, best2-9, best2-10}
 use Rattle.phase_scores.proofs.Paths.{pair_of, four-of, row_of, last_of, twice, path-back, none_of, one_of, two-of, three-of, four-bits-of, phase-score, single-score}
 

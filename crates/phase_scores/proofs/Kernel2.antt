@@ -13,7 +13,8 @@ use Rattle.values.specs.Value.{greater, turned, best_of}
 use Rattle.values.specs.Arikan.{arikan_score}
 use Rattle.values.specs.Path.{entry, pair_best, four_best, row_best, RowOf}
 use Rattle.phase_scores.proofs.Lists.{path2-1, path2-2, path2-3, path2-4, path2-5, path2-6, path2-7, path2-8, path2-9, path2-10, path2-11, path2-12, path2-13, path2-14, path2-15, path2-16}
-use Rattle.phase_scores.proofs.Block.{at, best}
+use Rattle.phase_scores.specs.Quarter.{at}
+use Rattle.phase_scores.proofs.Block.{best}
 use Rattle.phase_scores.proofs.Paths.{pair_of, four-of, row_of, last_of, twice, none_of, one_of, two-of, three-of, phase-score, single-score}
 
 -- The best score of a path after v8, after v9 and after v10.

@@ -17,7 +17,8 @@ use Rattle.values.specs.Arikan.{arikan_score}
 use Rattle.values.specs.Path.{entry, pair_best, four_best, row_best, RowOf}
 use Rattle.values.proofs.Greater.{greater-comm, greater-swap, best-cong}
 use Rattle.phase_scores.proofs.Scores.{kernel-score}
-use Rattle.phase_scores.proofs.Block.{at, best, value-is}
+use Rattle.phase_scores.specs.Quarter.{at}
+use Rattle.phase_scores.proofs.Block.{best, value-is}
 
 module _ (F : Bool → Bool → Bool → ℤ) (row : List ℤ) where
   -- A pair of a row, whichever of the two comes first.

@@ -6,24 +6,10 @@ use Prim.Native.Nat.{ℕ, ◌+◌, ◌<◌}
 use native.Mathlib.Omega.{arith}
 use lib.IntN.{ℤ}
 use lib.ListN.{length, length-append}
-use Rattle.values.specs.Value.{free_value, known_value}
+use Rattle.values.specs.Value.{known_value}
 use Rattle.values.specs.Arikan.{arikan_word, arikan_score}
 use Rattle.values.proofs.Arikan.{score-free, score-known, score-below}
-use Rattle.phase_scores.proofs.Block.{at}
-
--- e has the free folds of sixteen values, or those by the word of the first eight v.
-abbrev pub FreeHalf : List ℤ → List ℤ → Type 0
-FreeHalf ys e = (i : ℕ) → i < 8 → at e i ≡ free_value (at ys i) (at ys (8 + i))
-
-abbrev pub KnownHalf : List ℤ → (ℕ → Bool) → List ℤ → Type 0
-KnownHalf ys w e = (i : ℕ) → i < 8 → at e i ≡ known_value (w i) (at ys i) (at ys (8 + i))
-
--- t has the free folds of eight values, or those by the word of four v.
-abbrev pub FreeQuarter : List ℤ → List ℤ → Type 0
-FreeQuarter e t = (i : ℕ) → i < 4 → at t i ≡ free_value (at e i) (at e (4 + i))
-
-abbrev pub KnownQuarter : List ℤ → (ℕ → Bool) → List ℤ → Type 0
-KnownQuarter e w t = (i : ℕ) → i < 4 → at t i ≡ known_value (w i) (at e i) (at e (4 + i))
+use Rattle.phase_scores.specs.Quarter.{at, FreeHalf, KnownHalf, FreeQuarter, KnownQuarter}
 
 module _ (ys e : List ℤ) where
   pub half-free : FreeHalf ys e → (p : List Bool) → length p < 8 → arikan_score 4 (at ys) p ≡ arikan_score 3 (at e) p

@@ -7,7 +7,8 @@ use Rattle.folds.specs.Rows.{row_of}
 use Rattle.values.specs.Arikan.{arikan_word}
 use Rattle.values.specs.Path.{value8, value9, value10, RowOf}
 use Rattle.phase_scores.proofs.Tests.{path-word2}
-use Rattle.phase_scores.proofs.Block.{best, PlacesOf}
+use Rattle.phase_scores.specs.Quarter.{PlacesOf}
+use Rattle.phase_scores.proofs.Block.{best}
 use Rattle.phase_scores.proofs.Kernel2.{best2-8, best2-9, best2-10}
 use Rattle.phase_scores.proofs.Window.{Added}
 use Rattle.phase_scores.proofs.Window as window

@@ -9,7 +9,8 @@ use Rattle.folds.specs.Rows.{row_of}
 use Rattle.values.specs.Value.{gain}
 use Rattle.values.specs.Arikan.{arikan_word}
 use Rattle.values.specs.Path.{path_bits, value8, value9, value10, value11, value12, entry, RowOf}
-use Rattle.phase_scores.proofs.Block.{best, PlacesOf, AfterOf, eighth, ninth, tenth, eleventh, twelfth}
+use Rattle.phase_scores.specs.Quarter.{PlacesOf}
+use Rattle.phase_scores.proofs.Block.{best, AfterOf, eighth, ninth, tenth, eleventh, twelfth}
 use Rattle.phase_scores.proofs.Kernel2.{best2-8, best2-9, best2-10}
 use Rattle.phase_scores.proofs.Kernel1.{best1-12}
 

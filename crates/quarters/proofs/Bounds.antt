@@ -10,7 +10,7 @@ use Rattle.folds.specs.Range.{value_limit, first_outside}
 use Rattle.folds.proofs.Range.{outside-none}
 use Rattle.values.specs.Value.{Small}
 use Rattle.value_folds.proofs.Sizes.{free-small, known_small}
-use Rattle.phase_scores.proofs.Quarters.{FreeHalf, KnownHalf, FreeQuarter, KnownQuarter}
+use Rattle.phase_scores.specs.Quarter.{FreeHalf, KnownHalf, FreeQuarter, KnownQuarter}
 
 -- What is small is so by any greater bound.
 pub wider : (m n k : ℕ) (xs : List ℤ) → m ≤ n → Small m k xs → Small n k xs

@@ -3,7 +3,6 @@ use mathlib.Core.Path.{◌≡◌, refl, sym, ap₂, ◌∙◌}
 use mathlib.Core.Bool.{Bool}
 use mathlib.Core.List.{List, [], ◌∷◌}
 use Prim.Native.Nat.{ℕ, ◌+◌, ◌<◌}
-use native.Mathlib.Nat.{add-zero}
 use native.Mathlib.Omega.{arith}
 use lib.IntN.{ℤ, pos}
 use lib.ListN.{length, get_or}
@@ -16,24 +15,6 @@ use Rattle.quarters.proofs.Index.{below-4, below-16}
 -- A symbol at another way to write its phase, by another way to write its score.
 moved : (fre giv : ℕ → Bool) (b : Bool) (i j : ℕ) (s t : ℤ) → b ≡ symbol_by (fre i) (giv i) s → i ≡ j → s ≡ t → b ≡ symbol_by (fre j) (giv j) t
 moved fre giv b i j s t h e f = h ∙ ap₂ (λ i s. symbol_by (fre i) (giv i) s) e f
-
--- One phase and three after it.
-pub first-of-four : (sc : List Bool → ℤ) (fre giv : ℕ → Bool) (from : ℕ) (first : Bool) (s0 s1 s2 s3 : ℤ) (scores : List ℤ) (symbols : List Bool)
-    → s0 ≡ sc [] → first ≡ symbol_by (fre from) (giv from) s0
-    → Follows (λ p. sc (first ∷ p)) (λ i. fre (from + 1 + i)) (λ i. giv (from + 1 + i)) 3 scores symbols
-    → s1 ≡ get_or scores 0 (pos 0) → s2 ≡ get_or scores 1 (pos 0) → s3 ≡ get_or scores 2 (pos 0)
-    → Follows sc (λ i. fre (from + i)) (λ i. giv (from + i)) 4 (s0 ∷ s1 ∷ s2 ∷ s3 ∷ []) (first ∷ bit symbols 0 ∷ bit symbols 1 ∷ bit symbols 2 ∷ [])
-unfolding tabulate
-first-of-four sc fre giv from first s0 s1 s2 s3 scores symbols e f h e1 e2 e3 =
-    record {
-      score-at = below-4 _ e (e1 ∙ h.score-at 0 (omega arith)) (e2 ∙ h.score-at 1 (omega arith)) (e3 ∙ h.score-at 2 (omega arith));
-      symbol-at =
-          below-4 _
-          (moved fre giv first from (from + 0) s0 s0 f (sym (add-zero from)) refl)
-          (moved fre giv (bit symbols 0) (from + 1 + 0) (from + 1) _ s1 (h.symbol-at 0 (omega arith)) (omega arith) (sym e1))
-          (moved fre giv (bit symbols 1) (from + 1 + 1) (from + 2) _ s2 (h.symbol-at 1 (omega arith)) (omega arith) (sym e2))
-          (moved fre giv (bit symbols 2) (from + 1 + 2) (from + 3) _ s3 (h.symbol-at 2 (omega arith)) (omega arith) (sym e3));
-    }
 
 -- Four times four phases.
 pub four-fours : (sc : List Bool → ℤ) (fre giv : ℕ → Bool) (a b c d : List ℤ) (w x y z : List Bool)

@@ -14,8 +14,9 @@ use Rattle.polar.proofs.Fold.{arikan_code, arikan-onto}
 use Rattle.values.specs.Value.{free_value, known_value, gain, Small}
 use Rattle.values.specs.Arikan.{arikan_word, arikan_score}
 use Rattle.value_folds.proofs.Sizes.{add_small, free-small, known_small, gain-small}
-use Rattle.phase_scores.proofs.Block.{at, best, adds}
-use Rattle.phase_scores.proofs.Quarters.{FreeHalf, half-free}
+use Rattle.phase_scores.specs.Quarter.{at, FreeHalf}
+use Rattle.phase_scores.proofs.Block.{best, adds}
+use Rattle.phase_scores.proofs.Quarters.{half-free}
 use Rattle.quarters.specs.Part.{Follows}
 
 -- A score over 2 ^ t values is at most 2 ^ t times as large as the largest of them,

@@ -17,7 +17,7 @@ use Rattle.values.specs.Value.{known_value, Small}
 use Rattle.values.specs.Arikan.{best_v}
 use Rattle.values.specs.Path.{place_at, RowOf}
 use Rattle.value_folds.proofs.Sizes.{neg_small, free-small, known_small}
-use Rattle.phase_scores.proofs.Block.{at, PlacesOf}
+use Rattle.phase_scores.specs.Quarter.{at, PlacesOf}
 use Rattle.quarters.proofs.Bounds.{limit-small}
 use Rattle.quarters.proofs.Index.{below-8}
 

@@ -1,9 +1,21 @@
 -- Proof side: scores and symbols of phases one after the other. Assumes nothing.
-use Rattle.std.specs.Prelude.{◌≡◌, Bool, true, false, List, [], ◌∷◌, ℕ, ◌<◌, ℤ, pos, ◌-ℤ◌, get_or}
+use Rattle.std.specs.Prelude.{◌≡◌, Bool, true, false, List, [], ◌∷◌, ℕ, ◌<◌, ℤ, pos, ◌-ℤ◌, length, get_or}
 use Rattle.base.specs.Bit.{◌⊕◌, bit, tabulate}
+use Rattle.folds.specs.Range.{value_limit, first_outside}
 use Rattle.run.specs.Run.{symbol_by}
 use Rattle.values.specs.Value.{turned}
 use Rattle.values.specs.Path.{entry, pair_best, four_best}
+
+-- The first three bits of some, and the first four, before others.
+abbrev pub three : List Bool → List Bool → List Bool
+three v p = bit v 0 ∷ bit v 1 ∷ bit v 2 ∷ p
+
+abbrev pub four : List Bool → List Bool → List Bool
+four v p = bit v 0 ∷ bit v 1 ∷ bit v 2 ∷ bit v 3 ∷ p
+
+-- Sixteen channel values of a kernel, none past the limit.
+abbrev pub ChannelValues : List ℤ → Type 0
+ChannelValues values = (length values ≡ 16) × (first_outside value_limit values ≡ 16)
 
 -- Each of n scores is sc of the symbols before it, and each symbol is the one by its source and its score.
 pub record Follows (sc : List Bool → ℤ) (free given : ℕ → Bool) (n : ℕ) (scores : List ℤ) (symbols : List Bool) : Type 0 where

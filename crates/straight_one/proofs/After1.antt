@@ -12,7 +12,8 @@ use Rattle.folds.proofs.Limit.{limit-room}
 use Rattle.values.specs.Value.{known_value, Small}
 use Rattle.values.specs.Path.{after_at}
 use Rattle.value_folds.proofs.Sizes.{known_small}
-use Rattle.phase_scores.proofs.Block.{at, AfterOf}
+use Rattle.phase_scores.specs.Quarter.{at}
+use Rattle.phase_scores.proofs.Block.{AfterOf}
 use Rattle.quarters.proofs.Bounds.{limit-small}
 use Rattle.quarters.proofs.Index.{below-16}
 

@@ -13,7 +13,7 @@ use Rattle.kernel.specs.Kernels.{kernel_code}
 use Rattle.values.specs.Value.{greater, known_value}
 use Rattle.values.specs.Arikan.{arikan_word, arikan_score}
 use Rattle.values.specs.Path.{entry, RowOf}
-use Rattle.phase_scores.proofs.Block.{at}
+use Rattle.phase_scores.specs.Quarter.{at}
 use Rattle.phase_scores.proofs.Kernel1.{best1-11, best1-12, score1-9, score1-10, score1-11, score1-12, score1-13, score1-14, score1-15}
 use Rattle.phase_scores.proofs.Quarters.{half-known}
 use Rattle.values.proofs.Numbers.{path-below}

@@ -10,9 +10,9 @@ use lib.ListN.{length}
 use Rattle.polar.specs.Code.{channel, score}
 use Rattle.kernel.specs.Kernels.{kernel_code}
 use Rattle.values.specs.Arikan.{arikan_score}
-use Rattle.phase_scores.proofs.Block.{at}
+use Rattle.phase_scores.specs.Quarter.{at, FreeHalf, FreeQuarter}
 use Rattle.phase_scores.proofs.Kernel1.{score1-0, score1-1, score1-2}
-use Rattle.phase_scores.proofs.Quarters.{FreeHalf, FreeQuarter, first-quarter}
+use Rattle.phase_scores.proofs.Quarters.{first-quarter}
 use Rattle.quarters.specs.Part.{Follows}
 use Rattle.quarters.proofs.Few.{few-3}
 use Rattle.quarters.proofs.Following.{follows-as}

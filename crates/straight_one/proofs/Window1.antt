@@ -14,7 +14,8 @@ use Rattle.values.specs.Value.{Small}
 use Rattle.values.specs.Arikan.{arikan_word, best_v}
 use Rattle.values.specs.Path.{value8, value9, value10, value11, value12, RowOf}
 use Rattle.phase_scores.proofs.Tests.{path-word1}
-use Rattle.phase_scores.proofs.Block.{PlacesOf, AfterOf}
+use Rattle.phase_scores.specs.Quarter.{PlacesOf}
+use Rattle.phase_scores.proofs.Block.{AfterOf}
 use Rattle.phase_scores.proofs.Window.{Added, row-eight, row-nine, row-ten, row-eleven, row-twelve}
 use Rattle.quarters.proofs.Rows.{row_small}
 

@@ -12,9 +12,9 @@ use Rattle.polar.specs.Code.{channel, score}
 use Rattle.kernel.specs.Kernels.{kernel_code}
 use Rattle.values.specs.Arikan.{arikan_word, arikan_score}
 use Rattle.values.specs.Path.{RowOf}
-use Rattle.phase_scores.proofs.Block.{at}
+use Rattle.phase_scores.specs.Quarter.{at, FreeHalf, KnownHalf, FreeQuarter}
 use Rattle.phase_scores.proofs.Kernel2.{best2-10, score2-0, score2-1, score2-2, score2-3, score2-8, score2-9, score2-10, score2-11, score2-12, score2-13, score2-14, score2-15}
-use Rattle.phase_scores.proofs.Quarters.{FreeHalf, KnownHalf, FreeQuarter, first-quarter, half-known}
+use Rattle.phase_scores.proofs.Quarters.{first-quarter, half-known}
 use Rattle.quarters.specs.Part.{Follows, closing_score}
 use Rattle.quarters.proofs.Few.{few-3, few-4}
 use Rattle.quarters.proofs.Following.{follows-as}

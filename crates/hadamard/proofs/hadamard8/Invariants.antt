@@ -1,6 +1,6 @@
 use mathlib.Core.Path.{◌≡◌}
 use mathlib.Core.List.{List}
-use Prim.Native.Nat.{ℕ, ◌+◌, ◌-◌, ◌≤◌, ◌<◌}
+use Prim.Native.Nat.{ℕ, ◌+◌, ◌≤◌, ◌<◌}
 use lib.IntN.{ℤ, ◌+ℤ◌, ◌-ℤ◌}
 use lib.ListN.{length}
 use Rattle.hadamard.proofs.Holding.{at}
@@ -16,6 +16,3 @@ pub record Round (z : List ℤ) (i : ℕ) (sums differences : List ℤ) : Type 0
 
 abbrev pub invariant-loop-i : goal.invariant-loop-i
 invariant-loop-i l = Round l.values l.i l.sums l.differences
-
-abbrev pub decreases-loop-i : goal.decreases-loop-i
-decreases-loop-i l = 4 - l.i

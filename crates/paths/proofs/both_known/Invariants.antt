@@ -1,4 +1,4 @@
-use Prim.Native.Nat.{◌+◌, ◌-◌}
+use Prim.Native.Nat.{◌+◌}
 use lib.IntN.{pos}
 use lib.ListN.{get_or}
 use Rattle.base.specs.Bit.{◌⊕◌}
@@ -8,6 +8,3 @@ use Rattle.paths.proofs.both_known.Given as goal
 
 abbrev pub invariant-loop-i : goal.invariant-loop-i
 invariant-loop-i l = Halves (pos 0) l.i (λ d j. known_value (l.bit ⊕ d) (get_or l.p j (pos 0)) (get_or l.p (4 + j) (pos 0))) l.out
-
-abbrev pub decreases-loop-i : goal.decreases-loop-i
-decreases-loop-i l = 4 - l.i

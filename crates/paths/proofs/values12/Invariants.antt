@@ -1,5 +1,5 @@
 use mathlib.Core.List.{List, []}
-use Prim.Native.Nat.{ℕ, ◌-◌}
+use Prim.Native.Nat.{ℕ}
 use lib.IntN.{ℤ, pos}
 use lib.ListN.{get_or}
 use Rattle.values.specs.Value.{free_value}
@@ -12,6 +12,3 @@ at x r j = get_or (get_or x r []) j (pos 0)
 
 abbrev pub invariant-loop-i : goal.invariant-loop-i
 invariant-loop-i l = Filling (pos 0) 8 l.i (λ j. free_value (free_value (at l.x 0 j) (at l.x 2 j)) (free_value (at l.x 1 j) (at l.x 3 j))) l.s
-
-abbrev pub decreases-loop-i : goal.decreases-loop-i
-decreases-loop-i l = 8 - l.i

@@ -58,36 +58,36 @@ known-even-requires c =
     (wide (read_small _ _ _ (at 0 (omega arith))), wide (read_small _ _ _ (at 2 (omega arith))))
 
 -- The second fold with both symbols known,
-even_is : (c : After-known-even) → Carried c.known-even.result (known_value (c.args.first ⊕ c.symbol_of-b.result) (get_or c.args.values.now 0 (pos 0)) (get_or c.args.values.now 2 (pos 0))) (4194304 + 4194304)
+even_is : (c : After-known-even) → Carried c.known-even.result (known_value (c.args.first ⊕ c.symbol-b.result) (get_or c.args.values.now 0 (pos 0)) (get_or c.args.values.now 2 (pos 0))) (4194304 + 4194304)
 even_is c =
     let at = carried-entry 4194304 4 c.args.values.now c.requires.0 (omega arith) in
     carried-as _ _ _ _
-    (carried-known _ (not (beq c.args.first c.symbol_of-b.result)) _ _ _ _ 4194304 4194304 c.known-even.type_inv c.known-even.ensures (at 0 (omega arith)) (at 2 (omega arith)))
-    (ap (λ b. known_value b (get_or c.args.values.now 0 (pos 0)) (get_or c.args.values.now 2 (pos 0))) (differ c.args.first c.symbol_of-b.result))
+    (carried-known _ (not (beq c.args.first c.symbol-b.result)) _ _ _ _ 4194304 4194304 c.known-even.type_inv c.known-even.ensures (at 0 (omega arith)) (at 2 (omega arith)))
+    (ap (λ b. known_value b (get_or c.args.values.now 0 (pos 0)) (get_or c.args.values.now 2 (pos 0))) (differ c.args.first c.symbol-b.result))
 
 pub known-odd-requires : goal.known-odd-requires
 known-odd-requires c =
     let at = carried-entry 4194304 4 c.args.values.now c.requires.0 (omega arith) in
     (wide (read_small _ _ _ (at 1 (omega arith))), wide (read_small _ _ _ (at 3 (omega arith))))
 
-odd_is : (c : After-known-odd) → Carried c.known-odd.result (known_value c.symbol_of-b.result (get_or c.args.values.now 1 (pos 0)) (get_or c.args.values.now 3 (pos 0))) (4194304 + 4194304)
+odd_is : (c : After-known-odd) → Carried c.known-odd.result (known_value c.symbol-b.result (get_or c.args.values.now 1 (pos 0)) (get_or c.args.values.now 3 (pos 0))) (4194304 + 4194304)
 odd_is c =
     let at = carried-entry 4194304 4 c.args.values.now c.requires.0 (omega arith) in
-    carried-known _ c.symbol_of-b.result _ _ _ _ 4194304 4194304 c.known-odd.type_inv c.known-odd.ensures (at 1 (omega arith)) (at 3 (omega arith))
+    carried-known _ c.symbol-b.result _ _ _ _ 4194304 4194304 c.known-odd.type_inv c.known-odd.ensures (at 1 (omega arith)) (at 3 (omega arith))
 
 pub free-third-requires : goal.free-third-requires
 free-third-requires c = (half (read_small _ _ _ (even_is (goal.at.free-third-requires c).After-known-even)), half (read_small _ _ _ (odd_is (goal.at.free-third-requires c).After-known-odd)))
 
 -- and the last two scores.
-third-is : (c : After-free-third) → Carried c.free-third.result (free_value (known_value (c.args.first ⊕ c.symbol_of-b.result) (get_or c.args.values.now 0 (pos 0)) (get_or c.args.values.now 2 (pos 0))) (known_value c.symbol_of-b.result (get_or c.args.values.now 1 (pos 0)) (get_or c.args.values.now 3 (pos 0)))) (4194304 + 4194304)
+third-is : (c : After-free-third) → Carried c.free-third.result (free_value (known_value (c.args.first ⊕ c.symbol-b.result) (get_or c.args.values.now 0 (pos 0)) (get_or c.args.values.now 2 (pos 0))) (known_value c.symbol-b.result (get_or c.args.values.now 1 (pos 0)) (get_or c.args.values.now 3 (pos 0)))) (4194304 + 4194304)
 third-is c = carried-free _ _ _ _ _ (4194304 + 4194304) c.free-third.type_inv c.free-third.ensures (even_is (goal.at.After-free-third c).After-known-even) (odd_is (goal.at.After-free-third c).After-known-odd)
 
 pub known-fourth-requires : goal.known-fourth-requires
 known-fourth-requires c = (half (read_small _ _ _ (even_is (goal.at.known-fourth-requires c).After-known-even)), half (read_small _ _ _ (odd_is (goal.at.known-fourth-requires c).After-known-odd)))
 
-fourth-is : (c : After-known-fourth) → Carried c.known-fourth.result (known_value c.symbol_of-c.result (known_value (c.args.first ⊕ c.symbol_of-b.result) (get_or c.args.values.now 0 (pos 0)) (get_or c.args.values.now 2 (pos 0))) (known_value c.symbol_of-b.result (get_or c.args.values.now 1 (pos 0)) (get_or c.args.values.now 3 (pos 0)))) (4194304 + 4194304 + (4194304 + 4194304))
+fourth-is : (c : After-known-fourth) → Carried c.known-fourth.result (known_value c.symbol-c.result (known_value (c.args.first ⊕ c.symbol-b.result) (get_or c.args.values.now 0 (pos 0)) (get_or c.args.values.now 2 (pos 0))) (known_value c.symbol-b.result (get_or c.args.values.now 1 (pos 0)) (get_or c.args.values.now 3 (pos 0)))) (4194304 + 4194304 + (4194304 + 4194304))
 fourth-is c =
-    carried-known _ c.symbol_of-c.result _ _ _ _ (4194304 + 4194304) (4194304 + 4194304) c.known-fourth.type_inv c.known-fourth.ensures
+    carried-known _ c.symbol-c.result _ _ _ _ (4194304 + 4194304) (4194304 + 4194304) c.known-fourth.type_inv c.known-fourth.ensures
     (even_is (goal.at.After-known-fourth c).After-known-even) (odd_is (goal.at.After-known-fourth c).After-known-odd)
 
 pub returns : goal.returns
@@ -98,7 +98,7 @@ returns c =
       score-at = below-3 _ (second_is (goal.at.returns c).After-known-second).is (third-is (goal.at.returns c).After-free-third).is (fourth-is (goal.at.returns c).After-known-fourth).is;
       symbol-at =
           below-3 _
-          (c.symbol_of-b.ensures ∙ ap (λ i. symbol_by (bit (bits 16 a.free) i) (bit (bits 16 a.given) i) (read c.known-second.result)) (sym (add-zero a.from)))
-          c.symbol_of-c.ensures
-          c.symbol_of-d.ensures;
+          (c.symbol-b.ensures ∙ ap (λ i. symbol_by (bit (bits 16 a.sources.free) i) (bit (bits 16 a.sources.given) i) (read c.known-second.result)) (sym (add-zero a.from)))
+          c.symbol-c.ensures
+          c.symbol-d.ensures;
     }

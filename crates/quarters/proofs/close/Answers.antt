@@ -31,17 +31,17 @@ pub overflow_sub-first : goal.overflow_sub-first
 overflow_sub-first c = sub-fits _ _ _ _ _ _ (four-zero (goal.at.overflow_sub-first c).After-four_best) (four-one (goal.at.overflow_sub-first c).After-four_best-2) (omega arith)
 
 -- with v10 = 0 and v10 = 1 after v6,
-pair-zero : (c : After-pair_best) → (let s = c.args in let v6 = c.symbol_of-v6.result in Carried c.pair_best.result (pair_best s.kept.now v6 (s.t ⊕ (v6 ⊕ false))) 16777216)
+pair-zero : (c : After-pair_best) → (let s = c.args in let v6 = c.symbol-v6.result in Carried c.pair_best.result (pair_best s.kept.now v6 (s.t ⊕ (v6 ⊕ false))) 16777216)
 pair-zero c =
     let s = c in
-    let v6 = c.symbol_of-v6.result in
+    let v6 = c.symbol-v6.result in
     carried _ _ _ c.pair_best.type_inv (c.pair_best.ensures ∙ ap (pair_best s.args.kept.now v6) (fifth-zero s.args.t v6))
     (pair_small 16777216 s.args.kept.now s.requires.0 v6 (s.args.t ⊕ (v6 ⊕ false)))
 
-pair_one : (c : After-pair_best-2) → (let s = c.args in let v6 = c.symbol_of-v6.result in Carried c.pair_best-2.result (pair_best s.kept.now v6 (s.t ⊕ (v6 ⊕ true))) 16777216)
+pair_one : (c : After-pair_best-2) → (let s = c.args in let v6 = c.symbol-v6.result in Carried c.pair_best-2.result (pair_best s.kept.now v6 (s.t ⊕ (v6 ⊕ true))) 16777216)
 pair_one c =
     let s = c in
-    let v6 = c.symbol_of-v6.result in
+    let v6 = c.symbol-v6.result in
     carried _ _ _ c.pair_best-2.type_inv (c.pair_best-2.ensures ∙ ap (pair_best s.args.kept.now v6) (fifth-one s.args.t v6))
     (pair_small 16777216 s.args.kept.now s.requires.0 v6 (s.args.t ⊕ (v6 ⊕ true)))
 
@@ -49,19 +49,19 @@ pub overflow_sub-second : goal.overflow_sub-second
 overflow_sub-second c = sub-fits _ _ _ _ _ _ (pair-zero (goal.at.overflow_sub-second c).After-pair_best) (pair_one (goal.at.overflow_sub-second c).After-pair_best-2) (omega arith)
 
 -- and the scores of the two paths that are left after v10.
-entry_zero : (c : After-entry_of) → (let s = c.args in let v6 = c.symbol_of-v6.result in Carried c.entry_of.result (entry s.kept.now v6 (s.t ⊕ (v6 ⊕ c.symbol_of-v10.result)) false) 16777216)
+entry_zero : (c : After-entry_of) → (let s = c.args in let v6 = c.symbol-v6.result in Carried c.entry_of.result (entry s.kept.now v6 (s.t ⊕ (v6 ⊕ c.symbol-v10.result)) false) 16777216)
 entry_zero c =
     let s = c in
-    let v6 = c.symbol_of-v6.result in
-    let v10 = c.symbol_of-v10.result in
+    let v6 = c.symbol-v6.result in
+    let v10 = c.symbol-v10.result in
     carried _ _ _ c.entry_of.type_inv (c.entry_of.ensures ∙ ap (λ g. entry s.args.kept.now v6 g false) (fifth s.args.t v6 v10))
     (entry-small 16777216 s.args.kept.now s.requires.0 v6 (s.args.t ⊕ (v6 ⊕ v10)) false)
 
-entry-one : (c : After-entry_of-2) → (let s = c.args in let v6 = c.symbol_of-v6.result in Carried c.entry_of-2.result (entry s.kept.now v6 (s.t ⊕ (v6 ⊕ c.symbol_of-v10.result)) true) 16777216)
+entry-one : (c : After-entry_of-2) → (let s = c.args in let v6 = c.symbol-v6.result in Carried c.entry_of-2.result (entry s.kept.now v6 (s.t ⊕ (v6 ⊕ c.symbol-v10.result)) true) 16777216)
 entry-one c =
     let s = c in
-    let v6 = c.symbol_of-v6.result in
-    let v10 = c.symbol_of-v10.result in
+    let v6 = c.symbol-v6.result in
+    let v10 = c.symbol-v10.result in
     carried _ _ _ c.entry_of-2.type_inv (c.entry_of-2.ensures ∙ ap (λ g. entry s.args.kept.now v6 g true) (fifth s.args.t v6 v10))
     (entry-small 16777216 s.args.kept.now s.requires.0 v6 (s.args.t ⊕ (v6 ⊕ v10)) true)
 
@@ -76,13 +76,13 @@ turned-third-requires c =
 -- The third score.
 third-is : (c : After-turned-third) → (
     let s = c.args in
-    let v6 = c.symbol_of-v6.result in
-    let v5 = s.t ⊕ (v6 ⊕ c.symbol_of-v10.result) in
+    let v6 = c.symbol-v6.result in
+    let v5 = s.t ⊕ (v6 ⊕ c.symbol-v10.result) in
     Carried c.turned-third.result (turned ((v5 ⊕ v6) ⊕ s.v3) (entry s.kept.now v6 v5 false -ℤ entry s.kept.now v6 v5 true)) (16777216 + 16777216))
 third-is c =
     let s = c.args in
-    let v6 = c.symbol_of-v6.result in
-    let v10 = c.symbol_of-v10.result in
+    let v6 = c.symbol-v6.result in
+    let v10 = c.symbol-v10.result in
     let v5 = s.t ⊕ (v6 ⊕ v10) in
     let coded = not (beq (not (beq s.t v6)) v10) in
     carried-as _ _ _ _
@@ -101,7 +101,7 @@ returns c =
           (third-is (goal.at.returns c).After-turned-third).is;
       symbol-at =
           below-3 _
-          (first-phase (bit (bits 16 a.free)) (bit (bits 16 a.given)) a.from _ (read (read c.four_best.result -ℤ read c.four_best-2.result)) c.symbol_of-v6.ensures)
-          c.symbol_of-v10.ensures
-          c.symbol_of-v7.ensures;
+          (first-phase (bit (bits 16 a.sources.free)) (bit (bits 16 a.sources.given)) a.from _ (read (read c.four_best.result -ℤ read c.four_best-2.result)) c.symbol-v6.ensures)
+          c.symbol-v10.ensures
+          c.symbol-v7.ensures;
     }

@@ -15,15 +15,17 @@ use Rattle.folds.proofs.Limit.{limit-room}
 use Rattle.kernel.specs.Kernels.{kernel_code}
 use Rattle.values.specs.Value.{greater, Small}
 use Rattle.values.specs.Arikan.{arikan_score}
-use Rattle.phase_scores.proofs.Block.{at, best}
+use Rattle.phase_scores.specs.Quarter.{at}
+use Rattle.phase_scores.proofs.Block.{best}
 use Rattle.phase_scores.proofs.Kernel1.{score1-3}
 use Rattle.phase_scores.proofs.Quarters.{first-quarter}
 use Rattle.quarters.proofs.Bounds.{wider, limit-small, free-half-small, free-quarter-small}
 use Rattle.quarters.proofs.Gains.{scores-small, best-five}
 use Rattle.quarters.proofs.Rows.{best-small}
 use Rattle.straight_one.proofs.Run1.{first_three}
+use borrow.Author.Rules.{rules}
 use Rattle.straight_one.proofs.begin1.Goals as goal
-use Rattle.straight_one.proofs.begin1.Goals.{After-fourth1-one, After-fourth1-zero, After-free_quarter, After-run_four-run, Start}
+use Rattle.straight_one.proofs.begin1.Goals.{After-fourth1-one, After-fourth1-zero, After-free_half, After-run_four-run, Start}
 use mir.Syntax.{w32}
 
 -- Two numbers, each of which is small.
@@ -34,17 +36,17 @@ small-two n xs z e l (suc (suc i)) li = absurd (omega arith)
 
 -- The eight values are small,
 eighths-small : (c : Start) → Small value_limit 8 c.args.eighths.now
-eighths-small c = free-half-small value_limit c.args.values.now c.args.eighths.now (limit-small c.args.values.now c.requires.0 c.requires.1) c.requires.2
+eighths-small c = free-half-small value_limit c.args.values.now c.args.eighths.now (limit-small c.args.values.now c.requires.0.0 c.requires.0.1) c.requires.1
 
-pub free_quarter-requires : goal.free_quarter-requires
-free_quarter-requires c = wider value_limit 16777216 8 c.args.eighths.now (omega (arith, limit-room)) (eighths-small (goal.at.free_quarter-requires c).Start)
+pub free_half-requires : goal.free_half-requires
+free_half-requires c = (search rules, (search rules, wider value_limit 16777216 8 c.args.eighths.now (omega (arith, limit-room)) (eighths-small (goal.at.free_half-requires c).Start)))
 
 -- and so are four of them,
-quarter-small : (c : After-free_quarter) → Small value_limit 4 c.free_quarter.result
-quarter-small c = free-quarter-small value_limit c.args.eighths.now c.free_quarter.result (eighths-small (goal.at.After-free_quarter c).Start) c.free_quarter.ensures
+quarter-small : (c : After-free_half) → Small value_limit 4 c.free_half.result
+quarter-small c = free-quarter-small value_limit c.args.eighths.now c.free_half.result (eighths-small (goal.at.After-free_half c).Start) c.free_half.ensures
 
 pub run_four-run-requires : goal.run_four-run-requires
-run_four-run-requires c = (wider value_limit 4194304 4 c.free_quarter.result (omega (arith, limit-room)) (quarter-small (goal.at.run_four-run-requires c).After-free_quarter), omega arith)
+run_four-run-requires c = (wider value_limit 4194304 4 c.free_half.result (omega (arith, limit-room)) (quarter-small (goal.at.run_four-run-requires c).After-free_half), omega arith)
 
 -- and their scores.
 run_small : (c : After-run_four-run) → Small 4194304 4 c.run_four-run.result.scores
@@ -52,7 +54,7 @@ run_small c =
     let s = c.args in
     let a = c.run_four-run in
     wider (4 * value_limit) 4194304 4 a.result.scores (omega (arith, limit-room))
-    (scores-small value_limit c.free_quarter.result (λ i. bit (bits 16 s.free) (0 + i)) (λ i. bit (bits 16 s.given) (0 + i)) a.result.scores a.result.symbols (quarter-small (goal.at.After-run_four-run c).After-free_quarter) a.ensures)
+    (scores-small value_limit c.free_half.result (λ i. bit (bits 16 s.sources.free) (0 + i)) (λ i. bit (bits 16 s.sources.given) (0 + i)) a.result.scores a.result.symbols (quarter-small (goal.at.After-run_four-run c).After-free_half) a.ensures)
 
 pub fourth1-zero-requires : goal.fourth1-zero-requires
 fourth1-zero-requires c =
@@ -67,17 +69,17 @@ zero_is c b =
     let s = c in
     let ys = s.args.values.now in
     let e = s.args.eighths.now in
-    let t = c.free_quarter in
+    let t = c.free_half in
     let a = c.run_four-run in
     c.fourth1-zero.ensures b
-    ∙ best-five ys e s.requires.2 (arikan_score 2 (at t.result)) (first-quarter ys e t.result s.requires.2 t.ensures)
-    (λ i. bit (bits 16 s.args.free) (0 + i)) (λ i. bit (bits 16 s.args.given) (0 + i)) a.result.scores a.result.symbols a.ensures false b
+    ∙ best-five ys e s.requires.1 (arikan_score 2 (at t.result)) (first-quarter ys e t.result s.requires.1 t.ensures)
+    (λ i. bit (bits 16 s.args.sources.free) (0 + i)) (λ i. bit (bits 16 s.args.sources.given) (0 + i)) a.result.scores a.result.symbols a.ensures false b
 
 zero-small : (c : After-fourth1-zero) → Small 16777216 2 c.fourth1-zero.result
 zero-small c =
     let s = c in
     let v = c.run_four-run.result.symbols in
-    small-two 16777216 c.fourth1-zero.result _ (zero_is c) (λ b. omega (arith, limit-room, best-small s.args.values.now s.requires.0 s.requires.1 (bit v 0 ∷ bit v 1 ∷ bit v 2 ∷ false ∷ b ∷ [])))
+    small-two 16777216 c.fourth1-zero.result _ (zero_is c) (λ b. omega (arith, limit-room, best-small s.args.values.now s.requires.0.0 s.requires.0.1 (bit v 0 ∷ bit v 1 ∷ bit v 2 ∷ false ∷ b ∷ [])))
 
 pub fourth1-one-requires : goal.fourth1-one-requires
 fourth1-one-requires c =
@@ -92,17 +94,17 @@ one-is c b =
     let s = c in
     let ys = s.args.values.now in
     let e = s.args.eighths.now in
-    let t = c.free_quarter in
+    let t = c.free_half in
     let a = c.run_four-run in
     c.fourth1-one.ensures b
-    ∙ best-five ys e s.requires.2 (arikan_score 2 (at t.result)) (first-quarter ys e t.result s.requires.2 t.ensures)
-    (λ i. bit (bits 16 s.args.free) (0 + i)) (λ i. bit (bits 16 s.args.given) (0 + i)) a.result.scores a.result.symbols a.ensures true b
+    ∙ best-five ys e s.requires.1 (arikan_score 2 (at t.result)) (first-quarter ys e t.result s.requires.1 t.ensures)
+    (λ i. bit (bits 16 s.args.sources.free) (0 + i)) (λ i. bit (bits 16 s.args.sources.given) (0 + i)) a.result.scores a.result.symbols a.ensures true b
 
 one-small : (c : After-fourth1-one) → Small 16777216 2 c.fourth1-one.result
 one-small c =
     let s = c in
     let v = c.run_four-run.result.symbols in
-    small-two 16777216 c.fourth1-one.result _ (one-is c) (λ b. omega (arith, limit-room, best-small s.args.values.now s.requires.0 s.requires.1 (bit v 0 ∷ bit v 1 ∷ bit v 2 ∷ true ∷ b ∷ [])))
+    small-two 16777216 c.fourth1-one.result _ (one-is c) (λ b. omega (arith, limit-room, best-small s.args.values.now s.requires.0.0 s.requires.0.1 (bit v 0 ∷ bit v 1 ∷ bit v 2 ∷ true ∷ b ∷ [])))
 
 pub lead1-score-requires : goal.lead1-score-requires
 lead1-score-requires c = (zero-small (goal.at.lead1-score-requires c).After-fourth1-zero, one-small (goal.at.lead1-score-requires c).After-fourth1-one)
@@ -113,13 +115,13 @@ returns c =
     let ys = s.args.values.now in
     let a = c.run_four-run in
     let v = a.result.symbols in
-    let f = bit (bits 16 s.args.free) in
-    let g = bit (bits 16 s.args.given) in
-    let t = c.free_quarter in
+    let f = bit (bits 16 s.args.sources.free) in
+    let g = bit (bits 16 s.args.sources.given) in
+    let t = c.free_half in
     let zero = zero_is (goal.at.returns c).After-fourth1-zero in
     let one = one-is (goal.at.returns c).After-fourth1-one in
     let l = c.lead1-score in
-    c.begun1.ensures (score (kernel_code 1) (channel ys)) f g
-    (first_three ys s.args.eighths.now t.result s.requires.2 t.ensures f g a.result.scores v a.ensures)
+    c.three_and_one.ensures.0 (score (kernel_code 1) (channel ys)) f g
+    (first_three ys s.args.eighths.now t.result s.requires.1 t.ensures f g a.result.scores v a.ensures)
     (to_z-of_z {w = w32} (record { sfits = l.type_inv }) ∙ l.ensures ∙ ap₂ ◌-ℤ◌ (ap₂ greater (zero false) (one false)) (ap₂ greater (zero true) (one true)) ∙ sym (score1-3 ys (bit v 0) (bit v 1) (bit v 2)))
-    c.symbol_of-v4.ensures
+    c.symbol-v4.ensures

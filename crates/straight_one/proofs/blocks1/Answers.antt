@@ -14,7 +14,7 @@ use Rattle.values.specs.Value.{Small}
 use Rattle.values.specs.Arikan.{best_v}
 use Rattle.values.specs.Path.{value8, value9, value10, RowOf}
 use Rattle.value_folds.proofs.Read.{read_is}
-use Rattle.phase_scores.proofs.Block.{PlacesOf}
+use Rattle.phase_scores.specs.Quarter.{PlacesOf}
 use Rattle.phase_scores.proofs.Kernel1.{score1-4, score1-5, score1-6}
 use Rattle.phase_scores.proofs.Window.{Added}
 use Rattle.quarters.proofs.Bounds.{wider}
@@ -90,22 +90,22 @@ lead_of_two-score-requires c =
     (z.small false, z.small true, o.small false, o.small true)
 
 pub offset_bounds-zero-v8 : goal.offset_bounds-zero-v8
-offset_bounds-zero-v8 c = omega (arith, byte_small c.symbol_of-v8.result)
+offset_bounds-zero-v8 c = omega (arith, byte_small c.symbol-v8.result)
 
 pub step9-next_zero-requires : goal.step9-next_zero-requires
-step9-next_zero-requires c = (kept_small (zero8 (goal.at.step9-next_zero-requires c).After-step8-zero) c.symbol_of-v8.result, places-room (goal.at.step9-next_zero-requires c).Start false 4194304 (omega arith))
+step9-next_zero-requires c = (kept_small (zero8 (goal.at.step9-next_zero-requires c).After-step8-zero) c.symbol-v8.result, places-room (goal.at.step9-next_zero-requires c).Start false 4194304 (omega arith))
 
-zero9 : (c : After-step9-next_zero) → Nine (goal.at.After-step9-next_zero c).Start c.symbol_of-v8.result false c.step9-next_zero.result
-zero9 c = nine-at (goal.at.After-step9-next_zero c).Start false c.symbol_of-v8.result c.step8-zero.result c.step9-next_zero.result (zero8 (goal.at.After-step9-next_zero c).After-step8-zero) c.step9-next_zero.ensures
+zero9 : (c : After-step9-next_zero) → Nine (goal.at.After-step9-next_zero c).Start c.symbol-v8.result false c.step9-next_zero.result
+zero9 c = nine-at (goal.at.After-step9-next_zero c).Start false c.symbol-v8.result c.step8-zero.result c.step9-next_zero.result (zero8 (goal.at.After-step9-next_zero c).After-step8-zero) c.step9-next_zero.ensures
 
 pub offset_bounds-one-v8 : goal.offset_bounds-one-v8
-offset_bounds-one-v8 c = omega (arith, byte_small c.symbol_of-v8.result)
+offset_bounds-one-v8 c = omega (arith, byte_small c.symbol-v8.result)
 
 pub step9-next_one-requires : goal.step9-next_one-requires
-step9-next_one-requires c = (kept_small (one8 (goal.at.step9-next_one-requires c).After-step8-one) c.symbol_of-v8.result, places-room (goal.at.step9-next_one-requires c).Start true 4194304 (omega arith))
+step9-next_one-requires c = (kept_small (one8 (goal.at.step9-next_one-requires c).After-step8-one) c.symbol-v8.result, places-room (goal.at.step9-next_one-requires c).Start true 4194304 (omega arith))
 
-one9 : (c : After-step9-next_one) → Nine (goal.at.After-step9-next_one c).Start c.symbol_of-v8.result true c.step9-next_one.result
-one9 c = nine-at (goal.at.After-step9-next_one c).Start true c.symbol_of-v8.result c.step8-one.result c.step9-next_one.result (one8 (goal.at.After-step9-next_one c).After-step8-one) c.step9-next_one.ensures
+one9 : (c : After-step9-next_one) → Nine (goal.at.After-step9-next_one c).Start c.symbol-v8.result true c.step9-next_one.result
+one9 c = nine-at (goal.at.After-step9-next_one c).Start true c.symbol-v8.result c.step8-one.result c.step9-next_one.result (one8 (goal.at.After-step9-next_one c).After-step8-one) c.step9-next_one.ensures
 
 pub lead_of_two-second-requires : goal.lead_of_two-second-requires
 lead_of_two-second-requires c =
@@ -114,22 +114,22 @@ lead_of_two-second-requires c =
     (z.small false, z.small true, o.small false, o.small true)
 
 pub offset_bounds-next_zero-u : goal.offset_bounds-next_zero-u
-offset_bounds-next_zero-u c = omega (arith, byte_small c.symbol_of-u.result)
+offset_bounds-next_zero-u c = omega (arith, byte_small c.symbol-u.result)
 
 pub step10-last_zero-requires : goal.step10-last_zero-requires
-step10-last_zero-requires c = (kept_small (zero9 (goal.at.step10-last_zero-requires c).After-step9-next_zero) c.symbol_of-u.result, places-room (goal.at.step10-last_zero-requires c).Start false 4194304 (omega arith))
+step10-last_zero-requires c = (kept_small (zero9 (goal.at.step10-last_zero-requires c).After-step9-next_zero) c.symbol-u.result, places-room (goal.at.step10-last_zero-requires c).Start false 4194304 (omega arith))
 
-zero10 : (c : After-step10-last_zero) → Ten (goal.at.After-step10-last_zero c).Start c.symbol_of-v8.result c.symbol_of-u.result false c.step10-last_zero.result
-zero10 c = ten-at (goal.at.After-step10-last_zero c).Start false c.symbol_of-v8.result c.symbol_of-u.result c.step9-next_zero.result c.step10-last_zero.result (zero9 (goal.at.After-step10-last_zero c).After-step9-next_zero) c.step10-last_zero.ensures
+zero10 : (c : After-step10-last_zero) → Ten (goal.at.After-step10-last_zero c).Start c.symbol-v8.result c.symbol-u.result false c.step10-last_zero.result
+zero10 c = ten-at (goal.at.After-step10-last_zero c).Start false c.symbol-v8.result c.symbol-u.result c.step9-next_zero.result c.step10-last_zero.result (zero9 (goal.at.After-step10-last_zero c).After-step9-next_zero) c.step10-last_zero.ensures
 
 pub offset_bounds-next_one-u : goal.offset_bounds-next_one-u
-offset_bounds-next_one-u c = omega (arith, byte_small c.symbol_of-u.result)
+offset_bounds-next_one-u c = omega (arith, byte_small c.symbol-u.result)
 
 pub step10-last_one-requires : goal.step10-last_one-requires
-step10-last_one-requires c = (kept_small (one9 (goal.at.step10-last_one-requires c).After-step9-next_one) c.symbol_of-u.result, places-room (goal.at.step10-last_one-requires c).Start true 4194304 (omega arith))
+step10-last_one-requires c = (kept_small (one9 (goal.at.step10-last_one-requires c).After-step9-next_one) c.symbol-u.result, places-room (goal.at.step10-last_one-requires c).Start true 4194304 (omega arith))
 
-one10 : (c : After-step10-last_one) → Ten (goal.at.After-step10-last_one c).Start c.symbol_of-v8.result c.symbol_of-u.result true c.step10-last_one.result
-one10 c = ten-at (goal.at.After-step10-last_one c).Start true c.symbol_of-v8.result c.symbol_of-u.result c.step9-next_one.result c.step10-last_one.result (one9 (goal.at.After-step10-last_one c).After-step9-next_one) c.step10-last_one.ensures
+one10 : (c : After-step10-last_one) → Ten (goal.at.After-step10-last_one c).Start c.symbol-v8.result c.symbol-u.result true c.step10-last_one.result
+one10 c = ten-at (goal.at.After-step10-last_one c).Start true c.symbol-v8.result c.symbol-u.result c.step9-next_one.result c.step10-last_one.result (one9 (goal.at.After-step10-last_one c).After-step9-next_one) c.step10-last_one.ensures
 
 pub lead_of_two-third-requires : goal.lead_of_two-third-requires
 lead_of_two-third-requires c =
@@ -138,16 +138,16 @@ lead_of_two-third-requires c =
     (z.small false, z.small true, o.small false, o.small true)
 
 pub offset_bounds-last_zero-t : goal.offset_bounds-last_zero-t
-offset_bounds-last_zero-t c = omega (arith, byte_small c.symbol_of-t.result)
+offset_bounds-last_zero-t c = omega (arith, byte_small c.symbol-t.result)
 
 pub bounds-last_zero-t : goal.bounds-last_zero-t
-bounds-last_zero-t c = byte_small c.symbol_of-t.result
+bounds-last_zero-t c = byte_small c.symbol-t.result
 
 pub offset_bounds-last_one-t : goal.offset_bounds-last_one-t
-offset_bounds-last_one-t c = omega (arith, byte_small c.symbol_of-t.result)
+offset_bounds-last_one-t c = omega (arith, byte_small c.symbol-t.result)
 
 pub bounds-last_one-t : goal.bounds-last_one-t
-bounds-last_one-t c = byte_small c.symbol_of-t.result
+bounds-last_one-t c = byte_small c.symbol-t.result
 
 pub returns : goal.returns
 unfolding tabulate
@@ -168,9 +168,9 @@ returns c =
     let l8 = c.lead_of_two-score in
     let l9 = c.lead_of_two-second in
     let l10 = c.lead_of_two-third in
-    let b8 = c.symbol_of-v8 in
-    let b9 = c.symbol_of-u in
-    let b10 = c.symbol_of-t in record {
+    let b8 = c.symbol-v8 in
+    let b9 = c.symbol-u in
+    let b10 = c.symbol-t in record {
       follows = record {
         score-at =
             below-3 _

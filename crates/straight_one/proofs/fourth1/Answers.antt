@@ -11,10 +11,11 @@ use Rattle.values.specs.Value.{gain}
 use Rattle.values.specs.Arikan.{arikan_score}
 use Rattle.value_folds.proofs.Carried.{Carried, carried, carried-add, carried-sub, add-fits, sub-fits, read}
 use Rattle.value_folds.proofs.Sizes.{gain-small, gain-one}
-use Rattle.phase_scores.proofs.Block.{at}
+use Rattle.phase_scores.specs.Quarter.{at}
 use Rattle.phase_scores.proofs.Quarters.{quarter-known}
 use Rattle.quarters.proofs.Bounds.{wider, known-quarter-small}
 use Rattle.quarters.proofs.Gains.{score-small, gained-small}
+use borrow.Author.Rules.{rules}
 use Rattle.straight_one.proofs.fourth1.Goals as goal
 use Rattle.straight_one.proofs.fourth1.Goals.{After-below, After-four_free-value, After-gained}
 
@@ -23,12 +24,12 @@ by_bit : (x y g s : ℤ) → x ≡ g +ℤ gain s false → y ≡ (g +ℤ gain s 
 by_bit x y g s e f false = e
 by_bit x y g s e f true = f ∙ +ℤ_assoc g (gain s false) (neg_ℤ s) ∙ ap (λ z. g +ℤ z) (sym (gain-one s))
 
-pub known_quarter-requires : goal.known_quarter-requires
-known_quarter-requires c = wider 1048576 16777216 8 c.args.eighths.now (omega arith) c.requires.0
+pub known_half-requires : goal.known_half-requires
+known_half-requires c = (search rules, (search rules, (search rules, wider 1048576 16777216 8 c.args.eighths.now (omega arith) c.requires.0)))
 
 pub four_free-value-requires : goal.four_free-value-requires
 four_free-value-requires c =
-    let t = c.known_quarter in
+    let t = c.known_half in
     wider 2097152 16777216 4 t.result (omega arith) (known-quarter-small 1048576 c.args.eighths.now t.result c.requires.0 (bit c.word_of_four-word.result) t.ensures)
 
 -- The value of v4,
@@ -41,7 +42,7 @@ value-held c =
     let e = c.args.eighths.now in
     let v = c.args.v.now in
     let w = c.args.v3 in
-    let t = c.known_quarter in
+    let t = c.known_half in
     let f = c.word_of_four-word in
     carried _ _ _ c.four_free-value.type_inv (c.four_free-value.ensures ∙ sym (quarter-known e t.result (bit v 0 ∷ bit v 1 ∷ bit v 2 ∷ w ∷ []) refl (bit f.result) f.ensures t.ensures [] (omega arith)))
     (score-small 3 1048576 (at e) c.requires.0 (bit v 0 ∷ bit v 1 ∷ bit v 2 ∷ w ∷ []))

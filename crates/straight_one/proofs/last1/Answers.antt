@@ -6,7 +6,7 @@ use Prim.Native.Nat.{ℕ, ◌+◌, ◌^◌, ◌<◌}
 use native.Mathlib.Nat.{add_assoc}
 use native.Mathlib.Omega.{arith}
 use lib.IntN.{ℤ, ◌-ℤ◌}
-use lib.ListN.{length}
+use lib.ListN.{length, get_or}
 use lib.Signed.{mag}
 use Rattle.base.specs.Bit.{◌⊕◌, bit}
 use Rattle.bits.specs.Packed.{bits}
@@ -14,12 +14,13 @@ use Rattle.values.specs.Value.{Small}
 use Rattle.values.specs.Arikan.{arikan_word, arikan_score}
 use Rattle.values.specs.Path.{entry}
 use Rattle.value_folds.proofs.Carried.{Carried, carried, sub-fits, carried-sub, read}
-use Rattle.phase_scores.proofs.Block.{at}
-use Rattle.phase_scores.proofs.Quarters.{KnownQuarter, quarter-known}
+use Rattle.phase_scores.specs.Quarter.{at, KnownQuarter}
+use Rattle.phase_scores.proofs.Quarters.{quarter-known}
 use Rattle.quarters.proofs.Best.{entry-small}
 use Rattle.quarters.proofs.Bounds.{wider, known-quarter-small}
 use Rattle.quarters.proofs.Following.{follows-as}
 use Rattle.quarters.proofs.Index.{differ, differ-twice, fifth}
+use borrow.Author.Rules.{rules}
 use Rattle.straight_one.proofs.last1.Goals as goal
 use Rattle.straight_one.proofs.last1.Goals.{After-entry_of, After-entry_of-2, Start}
 
@@ -64,36 +65,36 @@ held-path s row h r l e =
     (entry-small 16777216 row h (third s 1) g (((g ⊕ third s 1) ⊕ third s 3) ⊕ s.args.v3))
 
 -- The entries of both rows.
-zero : (c : After-entry_of) → (let s = (goal.at.After-entry_of c).Start in Carried c.entry_of.result (entry_of s s.args.zero.now) 16777216)
+zero : (c : After-entry_of) → (let s = (goal.at.After-entry_of c).Start in Carried c.entry_of.result (entry_of s (get_or s.args.kept.now 0 [])) 16777216)
 zero c =
     let s = (goal.at.After-entry_of c).Start in
-    held-path s s.args.zero.now s.requires.1 c.entry_of.result c.entry_of.type_inv c.entry_of.ensures
+    held-path s (get_or s.args.kept.now 0 []) s.requires.1 c.entry_of.result c.entry_of.type_inv c.entry_of.ensures
 
-one : (c : After-entry_of-2) → (let s = (goal.at.After-entry_of-2 c).Start in Carried c.entry_of-2.result (entry_of s s.args.one.now) 16777216)
+one : (c : After-entry_of-2) → (let s = (goal.at.After-entry_of-2 c).Start in Carried c.entry_of-2.result (entry_of s (get_or s.args.kept.now 1 [])) 16777216)
 one c =
     let s = (goal.at.After-entry_of-2 c).Start in
-    held-path s s.args.one.now s.requires.2 c.entry_of-2.result c.entry_of-2.type_inv c.entry_of-2.ensures
+    held-path s (get_or s.args.kept.now 1 []) s.requires.2 c.entry_of-2.result c.entry_of-2.type_inv c.entry_of-2.ensures
 
 pub overflow_sub-score : goal.overflow_sub-score
 overflow_sub-score c =
     let s = (goal.at.overflow_sub-score c).Start in
-    sub-fits c.entry_of.result c.entry_of-2.result (entry_of s s.args.zero.now) (entry_of s s.args.one.now) 16777216 16777216 (zero (goal.at.overflow_sub-score c).After-entry_of) (one (goal.at.overflow_sub-score c).After-entry_of-2) (omega arith)
+    sub-fits c.entry_of.result c.entry_of-2.result (entry_of s (get_or s.args.kept.now 0 [])) (entry_of s (get_or s.args.kept.now 1 [])) 16777216 16777216 (zero (goal.at.overflow_sub-score c).After-entry_of) (one (goal.at.overflow_sub-score c).After-entry_of-2) (omega arith)
 
 -- The score of v11.
-less : (c : After-entry_of-2) → (let s = (goal.at.After-entry_of-2 c).Start in Carried (read c.entry_of.result -ℤ read c.entry_of-2.result) (entry_of s s.args.zero.now -ℤ entry_of s s.args.one.now) (16777216 + 16777216))
+less : (c : After-entry_of-2) → (let s = (goal.at.After-entry_of-2 c).Start in Carried (read c.entry_of.result -ℤ read c.entry_of-2.result) (entry_of s (get_or s.args.kept.now 0 []) -ℤ entry_of s (get_or s.args.kept.now 1 [])) (16777216 + 16777216))
 less c =
     let s = (goal.at.After-entry_of-2 c).Start in
-    carried-sub c.entry_of.result c.entry_of-2.result (entry_of s s.args.zero.now) (entry_of s s.args.one.now) 16777216 16777216 (zero (goal.at.After-entry_of-2 c).After-entry_of) (one c) (omega arith)
+    carried-sub c.entry_of.result c.entry_of-2.result (entry_of s (get_or s.args.kept.now 0 [])) (entry_of s (get_or s.args.kept.now 1 [])) 16777216 16777216 (zero (goal.at.After-entry_of-2 c).After-entry_of) (one c) (omega arith)
 
-pub known_quarter-quarter-requires : goal.known_quarter-quarter-requires
-known_quarter-quarter-requires c =
+pub known_half-quarter-requires : goal.known_half-quarter-requires
+known_half-quarter-requires c =
     let s = c in
-    wider 2097152 16777216 8 s.args.rest.now (omega arith) s.requires.0
+    (search rules, (search rules, (search rules, wider 2097152 16777216 8 s.args.rest.now (omega arith) s.requires.0)))
 
 pub after_first-last-requires : goal.after_first-last-requires
 after_first-last-requires c =
     let s = c in
-    let q = c.known_quarter-quarter in (
+    let q = c.known_half-quarter in (
       wider (2097152 + 2097152) 4194304 4 q.result (omega arith)
           (known-quarter-small 2097152 s.args.rest.now q.result s.requires.0 (bit c.word_of_four-word.result) q.ensures),
       omega arith,
@@ -103,14 +104,14 @@ pub returns : goal.returns
 returns c =
     λ sc first rest.
     let s = (goal.at.returns c).Start in
-    let b = c.symbol_of-v11 in
+    let b = c.symbol-v11 in
     let w = c.word_of_four-word in
-    let q = c.known_quarter-quarter in
+    let q = c.known_half-quarter in
     let a = c.after_first-last in
-    let fre = bit (bits 16 s.args.free) in
-    let giv = bit (bits 16 s.args.given) in
+    let fre = bit (bits 16 s.args.sources.free) in
+    let giv = bit (bits 16 s.args.sources.given) in
     c.one_and_three.ensures.0 sc (λ i. fre (12 + i)) (λ i. giv (12 + i))
-    ((less (goal.at.returns c).After-entry_of-2).is ∙ sym {b = entry_of s s.args.zero.now -ℤ entry_of s s.args.one.now} first)
+    ((less (goal.at.returns c).After-entry_of-2).is ∙ sym {b = entry_of s (get_or s.args.kept.now 0 []) -ℤ entry_of s (get_or s.args.kept.now 1 [])} first)
     b.ensures
     (follows-as (λ p. arikan_score 2 (at q.result) (third s 0 ∷ p)) (λ p. sc (b.result ∷ p)) (λ i. fre (13 + i)) (λ i. fre (12 + (1 + i))) (λ i. giv (13 + i)) (λ i. giv (12 + (1 + i))) 3 a.result.scores a.result.symbols
     (λ p l. after-eleven s.args.rest.now q.result (opened s 0) (opened s 1) (third s 1) (third s 2) b.result (third s 0) (bit w.result) w.ensures q.ensures p l ∙ sym (rest b.result p l))

@@ -23,9 +23,8 @@ returns c q =
     let s = c.args in
     let v = s.v.now in
     let o = s.opened.now in
-    let w = c.word_of_eight in
-    after-as s.values.now (known1 (bit v 0) (bit v 1) (bit v 2) (bit v 3)) s.v3 (bit w.result)
-    (w.ensures (bit v 0) (bit v 1) (bit v 2) false (bit v 3) false false false c.word_of_four-low.ensures c.word_of_four-high.ensures)
+    after-as s.values.now (known1 (bit v 0) (bit v 1) (bit v 2) (bit v 3)) s.v3 (bit c.word1.result)
+    c.word1.ensures
     (bit (not (beq (not (beq (bit o 0) (bit o 1))) (bit o 2)) ∷ bit o 1 ∷ bit o 2 ∷ false ∷ []))
     (bit (((bit o 0 ⊕ bit o 1) ⊕ bit o 2) ∷ bit o 1 ∷ bit o 2 ∷ false ∷ []))
     (below-4 _ (differ-twice (bit o 0) (bit o 1) (bit o 2)) refl refl refl)

@@ -5,7 +5,7 @@ use Prim.Native.Nat.{◌+◌}
 use Rattle.base.specs.Bit.{bit}
 use Rattle.values.specs.Value.{known_value}
 use Rattle.values.specs.Arikan.{arikan_word}
-use Rattle.phase_scores.proofs.Block.{at}
+use Rattle.phase_scores.specs.Quarter.{at}
 use Rattle.quarters.proofs.Index.{fifth}
 use Rattle.straight_one.proofs.rest1.Goals as goal
 

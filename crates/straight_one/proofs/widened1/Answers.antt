@@ -104,16 +104,16 @@ lead_of_two-score-requires c =
     (z.small false, z.small true, o.small false, o.small true)
 
 pub offset_bounds-zero-symbol : goal.offset_bounds-zero-symbol
-offset_bounds-zero-symbol c = omega (arith, byte_small c.symbol_of-symbol.result)
+offset_bounds-zero-symbol c = omega (arith, byte_small c.symbol-symbol.result)
 
 pub bounds-zero-symbol : goal.bounds-zero-symbol
-bounds-zero-symbol c = byte_small c.symbol_of-symbol.result
+bounds-zero-symbol c = byte_small c.symbol-symbol.result
 
 pub offset_bounds-one-symbol : goal.offset_bounds-one-symbol
-offset_bounds-one-symbol c = omega (arith, byte_small c.symbol_of-symbol.result)
+offset_bounds-one-symbol c = omega (arith, byte_small c.symbol-symbol.result)
 
 pub bounds-one-symbol : goal.bounds-one-symbol
-bounds-one-symbol c = byte_small c.symbol_of-symbol.result
+bounds-one-symbol c = byte_small c.symbol-symbol.result
 
 pub returns : goal.returns
 returns c =
@@ -123,7 +123,7 @@ returns c =
     let p = c.step12-zero.result in
     let q = c.step12-one.result in
     let l = c.lead_of_two-score in
-    let b = c.symbol_of-symbol in record {
+    let b = c.symbol-symbol in record {
       score = (
         read_is l.result l.type_inv ∙ l.ensures
             ∙ sym (score-twelve (ys s) (v s 0) (v s 1) (v s 2) (v s 3) (opened s 0) (opened s 1) (opened s 2) s.args.v3 (row_of p false) (row_of p true) (row_of q false) (row_of q true) (z.holds false) (z.holds true) (o.holds false) (o.holds true)),

@@ -22,7 +22,7 @@ use Rattle.quarters.proofs.Index.{below-3}
 use Rattle.quarters.proofs.Bounds.{wider}
 use Rattle.quarters.proofs.Rows.{row_small, places-small}
 use Rattle.straight_rest.proofs.wide2.Goals as goal
-use Rattle.straight_rest.proofs.wide2.Goals.{After-lead-first, After-lead-second, After-lead-third, After-step10-last, After-step8-rows, After-step9-next, After-symbol_of-t, After-symbol_of-u, After-symbol_of-v8, Start}
+use Rattle.straight_rest.proofs.wide2.Goals.{After-lead-first, After-lead-second, After-lead-third, After-step10-last, After-step8-rows, After-step9-next, After-symbol-t, After-symbol-u, After-symbol-v8, Start}
 
 -- The five v that are known, and what follows them.
 abbrev known : Start → List Bool → List Bool
@@ -77,80 +77,80 @@ lead-first-requires c = (
 )
 
 pub offset_bounds-rows-v8 : goal.offset_bounds-rows-v8
-offset_bounds-rows-v8 c = omega (arith, byte_small c.symbol_of-v8.result)
+offset_bounds-rows-v8 c = omega (arith, byte_small c.symbol-v8.result)
 
 -- The row that v8 picks.
-eight-chosen : (c : After-symbol_of-v8) → Row (goal.at.After-symbol_of-v8 c).Start (after8 c.symbol_of-v8.result) (get_or c.step8-rows.result (bool_byte c.symbol_of-v8.result) [])
-eight-chosen c = chosen-row (goal.at.After-symbol_of-v8 c).Start (after8 c.symbol_of-v8.result) c.step8-rows.result c.symbol_of-v8.result (eight (goal.at.After-symbol_of-v8 c).After-step8-rows c.symbol_of-v8.result)
+eight-chosen : (c : After-symbol-v8) → Row (goal.at.After-symbol-v8 c).Start (after8 c.symbol-v8.result) (get_or c.step8-rows.result (bool_byte c.symbol-v8.result) [])
+eight-chosen c = chosen-row (goal.at.After-symbol-v8 c).Start (after8 c.symbol-v8.result) c.step8-rows.result c.symbol-v8.result (eight (goal.at.After-symbol-v8 c).After-step8-rows c.symbol-v8.result)
 
 pub step9-next-requires : goal.step9-next-requires
 step9-next-requires c = (
-  row_fits (goal.at.step9-next-requires c).Start (after8 c.symbol_of-v8.result) (get_or c.step8-rows.result (bool_byte c.symbol_of-v8.result) []) (eight-chosen (goal.at.step9-next-requires c).After-symbol_of-v8),
+  row_fits (goal.at.step9-next-requires c).Start (after8 c.symbol-v8.result) (get_or c.step8-rows.result (bool_byte c.symbol-v8.result) []) (eight-chosen (goal.at.step9-next-requires c).After-symbol-v8),
   wider 2097152 4194304 8 c.args.places.now (omega arith) (places-are (goal.at.step9-next-requires c).Start),
 )
 
 -- The rows of v6 + v9, and the score of phase 6.
-nine : (c : After-step9-next) (b : Bool) → Row (goal.at.After-step9-next c).Start (after9 c.symbol_of-v8.result b) (row_of c.step9-next.result b)
+nine : (c : After-step9-next) (b : Bool) → Row (goal.at.After-step9-next c).Start (after9 c.symbol-v8.result b) (row_of c.step9-next.result b)
 nine c b =
     let s = c in
     let v = s.args.v.now in
-    row-nine s.args.values.now (bit v 0) (bit v 1) (bit v 2) (bit v 3) s.args.v4 s.args.places.now s.requires.b_value c.symbol_of-v8.result (get_or c.step8-rows.result (bool_byte c.symbol_of-v8.result) []) c.step9-next.result b (eight-chosen (goal.at.After-step9-next c).After-symbol_of-v8) c.step9-next.ensures
+    row-nine s.args.values.now (bit v 0) (bit v 1) (bit v 2) (bit v 3) s.args.v4 s.args.places.now s.requires.b_value c.symbol-v8.result (get_or c.step8-rows.result (bool_byte c.symbol-v8.result) []) c.step9-next.result b (eight-chosen (goal.at.After-step9-next c).After-symbol-v8) c.step9-next.ensures
 
-second_is : (c : After-lead-second) → read c.lead-second.result ≡ score (kernel_code 2) (channel c.args.values.now) (known (goal.at.After-lead-second c).Start (c.symbol_of-v8.result ∷ []))
+second_is : (c : After-lead-second) → read c.lead-second.result ≡ score (kernel_code 2) (channel c.args.values.now) (known (goal.at.After-lead-second c).Start (c.symbol-v8.result ∷ []))
 second_is c =
     let s = c in
     let v = s.args.v.now in
     read_is c.lead-second.result c.lead-second.type_inv ∙ c.lead-second.ensures
-    ∙ sym (score2-6 s.args.values.now (bit v 0) (bit v 1) (bit v 2) (bit v 3) s.args.v4 c.symbol_of-v8.result (row_of c.step9-next.result false) (row_of c.step9-next.result true) (nine (goal.at.After-lead-second c).After-step9-next false) (nine (goal.at.After-lead-second c).After-step9-next true))
+    ∙ sym (score2-6 s.args.values.now (bit v 0) (bit v 1) (bit v 2) (bit v 3) s.args.v4 c.symbol-v8.result (row_of c.step9-next.result false) (row_of c.step9-next.result true) (nine (goal.at.After-lead-second c).After-step9-next false) (nine (goal.at.After-lead-second c).After-step9-next true))
 
 pub lead-second-requires : goal.lead-second-requires
 lead-second-requires c = (
-  row_fits (goal.at.lead-second-requires c).Start (after9 c.symbol_of-v8.result false) (row_of c.step9-next.result false) (nine (goal.at.lead-second-requires c).After-step9-next false),
-  row_fits (goal.at.lead-second-requires c).Start (after9 c.symbol_of-v8.result true) (row_of c.step9-next.result true) (nine (goal.at.lead-second-requires c).After-step9-next true),
+  row_fits (goal.at.lead-second-requires c).Start (after9 c.symbol-v8.result false) (row_of c.step9-next.result false) (nine (goal.at.lead-second-requires c).After-step9-next false),
+  row_fits (goal.at.lead-second-requires c).Start (after9 c.symbol-v8.result true) (row_of c.step9-next.result true) (nine (goal.at.lead-second-requires c).After-step9-next true),
 )
 
 pub offset_bounds-next-u : goal.offset_bounds-next-u
-offset_bounds-next-u c = omega (arith, byte_small c.symbol_of-u.result)
+offset_bounds-next-u c = omega (arith, byte_small c.symbol-u.result)
 
 -- The row that v6 + v9 picks.
-nine-chosen : (c : After-symbol_of-u) → Row (goal.at.After-symbol_of-u c).Start (after9 c.symbol_of-v8.result c.symbol_of-u.result) (get_or c.step9-next.result (bool_byte c.symbol_of-u.result) [])
-nine-chosen c = chosen-row (goal.at.After-symbol_of-u c).Start (after9 c.symbol_of-v8.result c.symbol_of-u.result) c.step9-next.result c.symbol_of-u.result (nine (goal.at.After-symbol_of-u c).After-step9-next c.symbol_of-u.result)
+nine-chosen : (c : After-symbol-u) → Row (goal.at.After-symbol-u c).Start (after9 c.symbol-v8.result c.symbol-u.result) (get_or c.step9-next.result (bool_byte c.symbol-u.result) [])
+nine-chosen c = chosen-row (goal.at.After-symbol-u c).Start (after9 c.symbol-v8.result c.symbol-u.result) c.step9-next.result c.symbol-u.result (nine (goal.at.After-symbol-u c).After-step9-next c.symbol-u.result)
 
 pub step10-last-requires : goal.step10-last-requires
 step10-last-requires c = (
-  row_fits (goal.at.step10-last-requires c).Start (after9 c.symbol_of-v8.result c.symbol_of-u.result) (get_or c.step9-next.result (bool_byte c.symbol_of-u.result) []) (nine-chosen (goal.at.step10-last-requires c).After-symbol_of-u),
+  row_fits (goal.at.step10-last-requires c).Start (after9 c.symbol-v8.result c.symbol-u.result) (get_or c.step9-next.result (bool_byte c.symbol-u.result) []) (nine-chosen (goal.at.step10-last-requires c).After-symbol-u),
   wider 2097152 4194304 8 c.args.places.now (omega arith) (places-are (goal.at.step10-last-requires c).Start),
 )
 
 -- The rows of v5 + v6 + v10, and the score of phase 7.
-ten : (c : After-step10-last) (b : Bool) → Row (goal.at.After-step10-last c).Start (after10 c.symbol_of-v8.result c.symbol_of-u.result b) (row_of c.step10-last.result b)
+ten : (c : After-step10-last) (b : Bool) → Row (goal.at.After-step10-last c).Start (after10 c.symbol-v8.result c.symbol-u.result b) (row_of c.step10-last.result b)
 ten c b =
     let s = c in
     let v = s.args.v.now in
-    row-ten s.args.values.now (bit v 0) (bit v 1) (bit v 2) (bit v 3) s.args.v4 s.args.places.now s.requires.b_value c.symbol_of-v8.result c.symbol_of-u.result (get_or c.step9-next.result (bool_byte c.symbol_of-u.result) []) c.step10-last.result b (nine-chosen (goal.at.After-step10-last c).After-symbol_of-u) c.step10-last.ensures
+    row-ten s.args.values.now (bit v 0) (bit v 1) (bit v 2) (bit v 3) s.args.v4 s.args.places.now s.requires.b_value c.symbol-v8.result c.symbol-u.result (get_or c.step9-next.result (bool_byte c.symbol-u.result) []) c.step10-last.result b (nine-chosen (goal.at.After-step10-last c).After-symbol-u) c.step10-last.ensures
 
-third-is : (c : After-lead-third) → read c.lead-third.result ≡ score (kernel_code 2) (channel c.args.values.now) (known (goal.at.After-lead-third c).Start (c.symbol_of-v8.result ∷ c.symbol_of-u.result ∷ []))
+third-is : (c : After-lead-third) → read c.lead-third.result ≡ score (kernel_code 2) (channel c.args.values.now) (known (goal.at.After-lead-third c).Start (c.symbol-v8.result ∷ c.symbol-u.result ∷ []))
 third-is c =
     let s = c in
     let v = s.args.v.now in
     read_is c.lead-third.result c.lead-third.type_inv ∙ c.lead-third.ensures
-    ∙ sym (score2-7 s.args.values.now (bit v 0) (bit v 1) (bit v 2) (bit v 3) s.args.v4 c.symbol_of-v8.result c.symbol_of-u.result (row_of c.step10-last.result false) (row_of c.step10-last.result true) (ten (goal.at.After-lead-third c).After-step10-last false) (ten (goal.at.After-lead-third c).After-step10-last true))
+    ∙ sym (score2-7 s.args.values.now (bit v 0) (bit v 1) (bit v 2) (bit v 3) s.args.v4 c.symbol-v8.result c.symbol-u.result (row_of c.step10-last.result false) (row_of c.step10-last.result true) (ten (goal.at.After-lead-third c).After-step10-last false) (ten (goal.at.After-lead-third c).After-step10-last true))
 
 pub lead-third-requires : goal.lead-third-requires
 lead-third-requires c = (
-  row_fits (goal.at.lead-third-requires c).Start (after10 c.symbol_of-v8.result c.symbol_of-u.result false) (row_of c.step10-last.result false) (ten (goal.at.lead-third-requires c).After-step10-last false),
-  row_fits (goal.at.lead-third-requires c).Start (after10 c.symbol_of-v8.result c.symbol_of-u.result true) (row_of c.step10-last.result true) (ten (goal.at.lead-third-requires c).After-step10-last true),
+  row_fits (goal.at.lead-third-requires c).Start (after10 c.symbol-v8.result c.symbol-u.result false) (row_of c.step10-last.result false) (ten (goal.at.lead-third-requires c).After-step10-last false),
+  row_fits (goal.at.lead-third-requires c).Start (after10 c.symbol-v8.result c.symbol-u.result true) (row_of c.step10-last.result true) (ten (goal.at.lead-third-requires c).After-step10-last true),
 )
 
 pub offset_bounds-last-t : goal.offset_bounds-last-t
-offset_bounds-last-t c = omega (arith, byte_small c.symbol_of-t.result)
+offset_bounds-last-t c = omega (arith, byte_small c.symbol-t.result)
 
 pub bounds-last-t : goal.bounds-last-t
-bounds-last-t c = byte_small c.symbol_of-t.result
+bounds-last-t c = byte_small c.symbol-t.result
 
 -- The row that is kept.
-ten-chosen : (c : After-symbol_of-t) → Row (goal.at.After-symbol_of-t c).Start (after10 c.symbol_of-v8.result c.symbol_of-u.result c.symbol_of-t.result) (get_or c.step10-last.result (bool_byte c.symbol_of-t.result) [])
-ten-chosen c = chosen-row (goal.at.After-symbol_of-t c).Start (after10 c.symbol_of-v8.result c.symbol_of-u.result c.symbol_of-t.result) c.step10-last.result c.symbol_of-t.result (ten (goal.at.After-symbol_of-t c).After-step10-last c.symbol_of-t.result)
+ten-chosen : (c : After-symbol-t) → Row (goal.at.After-symbol-t c).Start (after10 c.symbol-v8.result c.symbol-u.result c.symbol-t.result) (get_or c.step10-last.result (bool_byte c.symbol-t.result) [])
+ten-chosen c = chosen-row (goal.at.After-symbol-t c).Start (after10 c.symbol-v8.result c.symbol-u.result c.symbol-t.result) c.step10-last.result c.symbol-t.result (ten (goal.at.After-symbol-t c).After-step10-last c.symbol-t.result)
 
 pub returns : goal.returns
 unfolding tabulate
@@ -158,7 +158,7 @@ returns c =
     record {
       follows = record {
         score-at = below-3 _ (first-is (goal.at.returns c).After-lead-first) (second_is (goal.at.returns c).After-lead-second) (third-is (goal.at.returns c).After-lead-third);
-        symbol-at = below-3 _ c.symbol_of-v8.ensures c.symbol_of-u.ensures c.symbol_of-t.ensures;
+        symbol-at = below-3 _ c.symbol-v8.ensures c.symbol-u.ensures c.symbol-t.ensures;
       };
-      kept = ten-chosen (goal.at.returns c).After-symbol_of-t;
+      kept = ten-chosen (goal.at.returns c).After-symbol-t;
     }

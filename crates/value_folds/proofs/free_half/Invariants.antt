@@ -1,12 +1,7 @@
-use Prim.Native.Nat.{◌+◌, ◌-◌}
-use lib.IntN.{pos}
-use lib.ListN.{get_or}
+use Rattle.std.proofs.Common.{◌+◌, pos, get_or}
 use Rattle.values.specs.Value.{free_value}
 use Rattle.value_folds.proofs.Filling.{Filling}
 use Rattle.value_folds.proofs.free_half.Given as goal
 
 abbrev pub invariant-loop-i : goal.invariant-loop-i
-invariant-loop-i l = Filling (pos 0) 8 l.i (λ j. free_value (get_or l.values j (pos 0)) (get_or l.values (8 + j) (pos 0))) l.out
-
-abbrev pub decreases-loop-i : goal.decreases-loop-i
-decreases-loop-i l = 8 - l.i
+invariant-loop-i g l = Filling (pos 0) g.row.N l.i (λ j. free_value (get_or l.values j (pos 0)) (get_or l.values (g.row.N + j) (pos 0))) l.out

@@ -1,37 +1,12 @@
--- `value_folds::known_half` meets its contract. The list is filled with the folded values below place i. Assumes nothing.
-use mathlib.Core.Path.{ap₂, ◌∙◌}
-use mathlib.Core.Bool.{false}
-use Prim.Native.Nat.{◌+◌}
-use lib.IntN.{pos}
-use lib.ListN.{get_or}
+-- `value_folds::known_half` meets its contract: one more entry is stored. Assumes nothing.
+use Rattle.std.proofs.Common.{rules, ◌≡◌, ◌+◌, false, pos, get_or, w32, to_z, of_z}
 use Rattle.values.specs.Value.{known_value}
-use Rattle.value_folds.proofs.Filling.{fill_none, fill_one, fill-all}
-use Rattle.value_folds.proofs.Read.{read_is, read_small}
-use borrow.Author.Rules.{rules}
+use Rattle.value_folds.proofs.Filling.{fill_one}
 use Rattle.value_folds.proofs.known_half.Goals as goal
 
-pub loop-i-init : goal.loop-i-init
-loop-i-init c = fill_none (pos 0) 8 _
-
-pub known-requires : goal.known-requires
-known-requires c =
-    let s = c in
-    let i = c.loop-i.i in
-    let xs = s.args.values.now in (
-      read_small (get_or xs i (pos 0)) c.known-arg-in-loop-i-1.given _ (s.requires.1 i (search rules)),
-      read_small (get_or xs (8 + i) (pos 0)) c.known-arg-in-loop-i-2-1.given _ (s.requires.1 (8 + i) (search rules)),
-    )
-
 pub loop-i-preserved : goal.loop-i-preserved
-loop-i-preserved c =
-    let d = c in
-    let k = d.loop-i in
-    let s = d in
-    let xs = s.args.values.now in
-    let p = read_is (get_or xs k.i (pos 0)) d.known-arg-in-loop-i-1.given in
-    let q = read_is (get_or xs (8 + k.i) (pos 0)) d.known-arg-in-loop-i-2-1.given in
-    let e = read_is c.known.result c.known.type_inv in
-    fill_one (pos 0) 8 k.i _ k.out k.invariant _ (search rules) (e ∙ c.known.ensures ∙ ap₂ (known_value (get_or s.args.word.now k.i false)) p q)
-
-pub returns : goal.returns
-returns c = fill-all (pos 0) 8 _ _ _ c.loop-i.invariant (search rules)
+loop-i-preserved g c =
+    let k = c.loop-i in
+    let xs = c.args.values.now in
+    let e : to_z w32 (of_z w32 c.known.result) ≡ known_value (get_or c.args.word.now k.i false) (get_or xs k.i (pos 0)) (get_or xs (g.row.N + k.i) (pos 0)) = search rules in
+    fill_one (pos 0) g.row.N k.i _ k.out k.invariant _ (search rules) e
