@@ -5,7 +5,8 @@ ghost use Rattle.std.specs.Prelude.{◌≡◌, true, false, ℕ, ◌+◌, ◌≤
 ghost use Rattle.folds.specs.Rows.{select, cell};
 ghost use Rattle.lane.specs.Lanes.{lane_bits, lane_bit};
 
-// The bit of each lane in a plane, lane 0 in the most significant.
+/// The bit of each lane in a plane, lane 0 in the most significant.
+// They are lent to what tests them: where the compiler sees them as constants, a fold takes 44 instructions in place of 37.
 pub fn flags() -> [u16; 16]
     ensures { result ≡ lane_bits }
 {
@@ -15,80 +16,68 @@ pub fn flags() -> [u16; 16]
     ]
 }
 
-// Whether a plane has a lane's bit.
+/// Whether a plane has a lane's bit.
 pub fn has(plane: u16, bit: u16) -> bool
     ensures { (l : ℕ) → l < 16 → bit ≡ get_or lane_bits l 0 → result ≡ lane_bit plane l }
 {
     plane & bit != 0
 }
 
-// What a place pays for bit 0 and for bit 1, in one lane.
-#[derive(Clone, Copy)]
+/// What a place pays for bit 0 and for bit 1, in one lane.
+// Folds of its own beside those of place_folds, numbers of sixteen bits here and of 32 there: a generic sum would ask for a bound of
+// its type in each clause.
+#[derive(Clone, Copy, Debug, PartialEq, Eq)]
 pub struct Pair {
     pub zero: u16,
     pub one: u16,
 }
 
-// The lesser of two numbers.
-pub fn lesser(a: u16, b: u16) -> u16
-    ensures { result ≡ min a b }
-{
-    if a < b { a } else { b }
-}
-
-// The same of two numbers that fit fifteen bits: the processor's vectors have a minimum of signed numbers.
-fn lower(a: u16, b: u16) -> u16
-    requires { (a ≤ 32767) × (b ≤ 32767) }
-    ensures { result ≡ min a b }
-{
-    if (a as i16) < (b as i16) { a } else { b }
-}
-
-// One of two numbers.
-pub fn pick(c: bool, x: u16, y: u16) -> u16
-    ensures { result ≡ select x y c }
-{
-    if c { y } else { x }
-}
-
-// A place in lane l.
+/// A place in lane l.
 pub fn at(place: &[[u16; 16]; 2], l: usize) -> Pair
     requires { l < 16 }
     ensures { (result.zero ≡ cell 0 place.now l false) × (result.one ≡ cell 0 place.now l true) }
 {
-    let zero = place[0][l];
-    let one = place[1][l];
-    Pair { zero, one }
+    Pair {
+        zero: place[0][l],
+        one: place[1][l],
+    }
 }
 
-// Two places folded onto one, the second one's bit being free.
+/// Two places folded onto one, the second one's bit being free.
 pub fn free(p: Pair, q: Pair) -> Pair
     requires { (p.zero ≤ 16383) × (p.one ≤ 16383) × (q.zero ≤ 16383) × (q.one ≤ 16383) }
-    ensures { (result.zero ≡ min (p.zero + q.zero) (p.one + q.one)) × (result.one ≡ min (p.one + q.zero) (p.zero + q.one)) }
+    ensures { (result.zero ≡ min (p.zero + q.zero) (p.one + q.one))
+        × (result.one ≡ min (p.one + q.zero) (p.zero + q.one)) }
 {
     Pair {
-        zero: lower(p.zero + q.zero, p.one + q.one),
-        one: lower(p.one + q.zero, p.zero + q.one),
+        zero: (p.zero + q.zero).min(p.one + q.one),
+        one: (p.one + q.zero).min(p.zero + q.one),
     }
 }
 
-// Two places folded onto one, the first one's bit being known.
+/// Two places folded onto one, the first one's bit being known.
 pub fn known(bit: bool, p: Pair, q: Pair) -> Pair
     requires { (p.zero ≤ 16383) × (p.one ≤ 16383) × (q.zero ≤ 16383) × (q.one ≤ 16383) }
-    ensures { (result.zero ≡ select p.zero p.one bit + q.zero) × (result.one ≡ select p.one p.zero bit + q.one) }
+    ensures { (result.zero ≡ select p.zero p.one bit + q.zero)
+        × (result.one ≡ select p.one p.zero bit + q.one) }
 {
+    let first = turned(bit, p);
     Pair {
-        zero: pick(bit, p.zero, p.one) + q.zero,
-        one: pick(bit, p.one, p.zero) + q.one,
+        zero: first.zero + q.zero,
+        one: first.one + q.one,
     }
 }
 
-// What a place pays for the bit and 0, and for the bit and 1.
+/// What a place pays for the bit and 0, and for the bit and 1.
 pub fn turned(bit: bool, p: Pair) -> Pair
     ensures { (result.zero ≡ select p.zero p.one bit) × (result.one ≡ select p.one p.zero bit) }
 {
-    Pair {
-        zero: pick(bit, p.zero, p.one),
-        one: pick(bit, p.one, p.zero),
+    if bit {
+        Pair {
+            zero: p.one,
+            one: p.zero,
+        }
+    } else {
+        p
     }
 }

@@ -9,7 +9,7 @@ use Rattle.polar.specs.Code.{Costs}
 use Rattle.polar.specs.Fold.{free_fold, known_fold, level, folded}
 use Rattle.windows.proofs.Levels.{known-level, free-level, next_level, level-le}
 use Rattle.lane.specs.Lanes.{node_costs, LanesWithin}
-use Rattle.lane_paths.proofs.Turn.{node_of}
+use Rattle.lane_paths.proofs.Turn.{node-inside}
 
 -- After n known v, whose words stand in y one after the other:
 module _ (n : ℕ) (y : ℕ → Bool) (m : Costs) where
@@ -59,10 +59,21 @@ module _ (n : ℕ) (y : ℕ → Bool) (m : Costs) where
         let s : n - 1 ≡ n / 2 * 2 + 0 = omega arith in
         ap (λ i. two 0 (y i ⊕ b) + two (1 + 0) b) s ∙ ap (λ (c : Costs). c 0 b) (known-level 1 (n % 2) y1 two (omega arith)) ∙ last b
 
+  -- The same by words that have those bits at the places where they are read.
+  pub read-1 : (x : ℕ → Bool) (i : ℕ) (b : Bool) → x i ≡ y2 i → known_fold 2 x (free_fold 4 m) i b ≡ known_fold 2 y2 (free_fold 4 m) i b
+  read-1 x i b e = ap (λ c. free_fold 4 m i (c ⊕ b) + free_fold 4 m (2 + i) b) e
+
+  pub read-2 : (w : ℕ → Bool) (i : ℕ) (b : Bool) → w i ≡ y4 i → w (2 + i) ≡ y4 (2 + i) → free_fold 2 (known_fold 4 w m) i b ≡ free_fold 2 (known_fold 4 y4 m) i b
+  read-2 w i b e f = rw (e, f) refl
+
+  pub read-3 : (x w : ℕ → Bool) (i : ℕ) (b : Bool) → x i ≡ y2 i → w i ≡ y4 i → w (2 + i) ≡ y4 (2 + i)
+      → known_fold 2 x (known_fold 4 w m) i b ≡ known_fold 2 y2 (known_fold 4 y4 m) i b
+  read-3 x w i b e f g = rw (e, f, g) refl
+
   -- They stay within four times a bound.
   pub two-le : (b : ℕ) → ((j : ℕ) (d : Bool) → j < 8 → m j d ≤ b) → (i : ℕ) (d : Bool) → i < 2 → level 2 (n % 4) y2 four i d ≤ (b + b) + (b + b)
   two-le b most = level-le 2 (n % 4) y2 four (b + b) (level-le 4 (n % 8) y4 m b most)
 
 -- A node's costs are within the bound of all.
 pub node-le : (nodes : List (List (List ℕ))) (f : ℕ → Bool) (l : ℕ) → LanesWithin 4095 nodes → l < 16 → (j : ℕ) (b : Bool) → j < 8 → node_costs nodes f l j b ≤ 4095
-node-le nodes f l most ll j b lj = most (8 * digit (f j) + j) (node_of f j _ lj refl).inside l b ll
+node-le nodes f l most ll j b lj = most (8 * digit (f j) + j) (node-inside f j _ lj refl) l b ll

@@ -5,10 +5,13 @@ ghost use Rattle.std.specs.Prelude.{◌≡◌, Bool, true, false, ℕ, ◌+◌, 
 ghost use Rattle.base.specs.Bit;
 ghost use Rattle.base.specs.Bit.{◌⊕◌};
 ghost use Rattle.bits.specs.Packed.{bits};
+ghost use Rattle.polar.specs.Code.{Costs};
 ghost use Rattle.polar.specs.Fold.{free_fold, known_fold, level, folded};
-ghost use Rattle.folds.specs.Rows.{cell};
+ghost use Rattle.folds.specs.Rows.{cell, Pays};
+ghost use Rattle.folds.proofs.Pairs.{free-le, known-le};
+ghost use Rattle.place_folds.specs.Folds.{bit_fold};
 ghost use Rattle.lane.specs.Lanes.{lane_bits, lane_bit, word_at, node_costs, LanesWithin};
-ghost use Rattle.lane_paths.specs.Places.{two_costs, AtPlace, AtFour};
+ghost use Rattle.lane_paths.specs.Places.{two_costs};
 
 use lane::{Pair, at, free, has, known, turned};
 
@@ -24,267 +27,120 @@ fn node(other: u16, j: usize) -> usize
     }
 }
 
-// Plane j of those from the last multiple of eight on,
-fn of_eight(words: &[u16; 16], high: usize, j: usize) -> u16
-    requires { (high < 16) × (j < 8) }
-    ensures { result ≡ get_or words.now (high / 8 * 8 + j) 0 }
+// Two places folded onto one, where the first one's bit may be known. It stands beside that of place_folds, with numbers of sixteen
+// bits here and of 32 there: a generic sum would ask for a bound of its type in each clause.
+fn fold_pair(bit: Option<bool>, p: Pair, q: Pair) -> Pair
+    requires { (p.zero ≤ 16383) × (p.one ≤ 16383) × (q.zero ≤ 16383) × (q.one ≤ 16383) }
+    ensures { (n i : ℕ) (c : Costs) → Pays c i p.zero p.one → Pays c (n + i) q.zero q.one
+        → Pays (bit_fold bit n c) i result.zero result.one }
 {
-    words[high / 8 * 8 + j]
+    match bit {
+        Some(bit) => known(bit, p, q),
+        None => free(p, q),
+    }
 }
 
-// and of those from the last multiple of four on.
-fn of_four(words: &[u16; 16], high: usize, j: usize) -> u16
-    requires { (high < 16) × (j < 4) }
-    ensures { result ≡ get_or words.now (high / 4 * 4 + j) 0 }
-{
-    words[high / 4 * 4 + j]
+// One fold of places onto half as many, place i of the first half with place i of the second, in each lane. It stands beside that of
+// place_folds, which has no lanes, for the reason that `fold_pair` gives.
+trait Fold {
+    // What is left in a lane on n places of the costs of 2n.
+    ghost onto: { Self → ℕ → ℕ → Costs → Costs };
+
+    // The bit of place i of the first half in lane l, where it is known.
+    fn bit(&self, i: usize, l: usize) -> Option<bool>
+        requires { (i < 4) × (l < 16) }
+        ensures { (n : ℕ) (c : Costs) (b : Bool)
+            → bit_fold result n c i b ≡ onto self.now l n c i b };
+
+    // A fold at most doubles a bound.
+    ghost doubles: { (s : Self) (l n : ℕ) (c : Costs) (m : ℕ)
+        → ((j : ℕ) (b : Bool) → j < n + n → c j b ≤ m) → (j : ℕ) (b : Bool) → j < n
+        → onto s l n c j b ≤ m + m };
 }
 
-// What two nodes pay in lane l folded onto one place, where the first half is not known
-fn free_at(nodes: &[[[u16; 16]; 2]; 16], i: usize, k: usize, l: usize) -> Pair
-    requires { (i < 16) × (k < 16) × (l < 16) × LanesWithin 4095 nodes.now }
-    ensures { (j : ℕ) → AtPlace nodes.now i k l (free_fold 4) j result.zero result.one }
-{
-    free(at(&nodes[i], l), at(&nodes[k], l))
+// The second half is free.
+#[derive(Clone, Copy, Debug, PartialEq, Eq)]
+struct SecondFree;
+
+impl Fold for SecondFree {
+    ghost onto = { λ s l. free_fold };
+
+    ghost doubles = { λ s l. free-le };
+
+    fn bit(&self, i: usize, l: usize) -> Option<bool> {
+        None
+    }
 }
 
-// and where it is, the plane's bit of the lane.
-fn known_at(
-    nodes: &[[[u16; 16]; 2]; 16],
-    i: usize,
-    k: usize,
-    l: usize,
-    flag: u16,
-    plane: u16,
-) -> Pair
-    requires { (i < 16) × (k < 16) × (l < 16) × LanesWithin 4095 nodes.now × (flag ≡ get_or lane_bits l 0) }
-    ensures { (w : ℕ → Bool) (j : ℕ) → lane_bit plane l ≡ w j → AtPlace nodes.now i k l (known_fold 4 w) j result.zero result.one }
-{
-    known(has(plane, flag), at(&nodes[i], l), at(&nodes[k], l))
+// The first half is known: planes have its words' bits.
+#[derive(Clone, Copy, Debug, PartialEq, Eq)]
+struct FirstKnown<'a> {
+    flags: &'a [u16; 16],
+    planes: [u16; 4],
+    ghost lanes: { flags.now ≡ lane_bits },
 }
 
-// Four nodes folded onto one place in lane l, where no first half is known,
-fn free_free_at(
-    nodes: &[[[u16; 16]; 2]; 16],
-    i: usize,
-    k: usize,
-    m: usize,
-    n: usize,
-    l: usize,
-) -> Pair
-    requires { (i < 16) × (k < 16) × (m < 16) × (n < 16) × (l < 16) × LanesWithin 4095 nodes.now }
-    ensures { (j : ℕ) → AtFour nodes.now i k m n l (λ c. free_fold 2 (free_fold 4 c)) j result.zero result.one }
-{
-    let p = free_at(nodes, i, k, l);
-    let q = free_at(nodes, m, n, l);
-    free(p, q)
+impl<'a> Fold for FirstKnown<'a> {
+    ghost onto = { λ s l n. known_fold n (word_at s.planes l) };
+
+    ghost doubles = { λ s l n. known-le n (word_at s.planes l) };
+
+    fn bit(&self, i: usize, l: usize) -> Option<bool> {
+        Some(has(self.planes[i], self.flags[l]))
+    }
 }
 
-// The same where that of the second fold is known,
-fn free_known_at(
-    nodes: &[[[u16; 16]; 2]; 16],
-    i: usize,
-    k: usize,
-    m: usize,
-    n: usize,
-    l: usize,
-    flag: u16,
-    x: u16,
-) -> Pair
-    requires { (i < 16) × (k < 16) × (m < 16) × (n < 16) × (l < 16) × LanesWithin 4095 nodes.now × (flag ≡ get_or lane_bits l 0) }
-    ensures { (v : ℕ → Bool) (j : ℕ) → lane_bit x l ≡ v j → AtFour nodes.now i k m n l (λ c. known_fold 2 v (free_fold 4 c)) j result.zero result.one }
+// Place i of the four that a fold of a path's eight leaves, in lane l.
+fn half<A: Fold>(first: &A, nodes: &[[[u16; 16]; 2]; 16], other: u16, i: usize, l: usize) -> Pair
+    requires index { (i < 4) × (l < 16) }
+    requires small { LanesWithin 4095 nodes.now }
+    ensures { Pays (A.onto first.now l 4 (node_costs nodes.now (Bit.bit (bits 16 other)) l)) i result.zero result.one }
 {
-    let p = free_at(nodes, i, k, l);
-    let q = free_at(nodes, m, n, l);
-    known(has(x, flag), p, q)
+    let bit = first.bit(i, l);
+    let p = at(&nodes[node(other, i)], l);
+    let q = at(&nodes[node(other, 4 + i)], l);
+    fold_pair(bit, p, q)
 }
 
-// The same where that of the first fold is known,
-fn known_free_at(
-    nodes: &[[[u16; 16]; 2]; 16],
-    i: usize,
-    k: usize,
-    m: usize,
-    n: usize,
-    l: usize,
-    flag: u16,
-    a: u16,
-    b: u16,
-) -> Pair
-    requires { (i < 16) × (k < 16) × (m < 16) × (n < 16) × (l < 16) × LanesWithin 4095 nodes.now × (flag ≡ get_or lane_bits l 0) }
-    ensures { (w : ℕ → Bool) (j : ℕ) → lane_bit a l ≡ w j → lane_bit b l ≡ w (2 + j) → AtFour nodes.now i k m n l (λ c. free_fold 2 (known_fold 4 w c)) j result.zero result.one }
-{
-    let p = known_at(nodes, i, k, l, flag, a);
-    let q = known_at(nodes, m, n, l, flag, b);
-    free(p, q)
-}
-
-// The same where both are known.
-fn known_known_at(
-    nodes: &[[[u16; 16]; 2]; 16],
-    i: usize,
-    k: usize,
-    m: usize,
-    n: usize,
-    l: usize,
-    flag: u16,
-    a: u16,
-    b: u16,
-    x: u16,
-) -> Pair
-    requires { (i < 16) × (k < 16) × (m < 16) × (n < 16) × (l < 16) × LanesWithin 4095 nodes.now × (flag ≡ get_or lane_bits l 0) }
-    ensures { (v w : ℕ → Bool) (j : ℕ) → lane_bit x l ≡ v j → lane_bit a l ≡ w j → lane_bit b l ≡ w (2 + j) → AtFour nodes.now i k m n l (λ c. known_fold 2 v (known_fold 4 w c)) j result.zero result.one }
-{
-    let p = known_at(nodes, i, k, l, flag, a);
-    let q = known_at(nodes, m, n, l, flag, b);
-    known(has(x, flag), p, q)
-}
-
-// The eight places of a path folded onto two in each lane, where no first half is known,
-fn free_free(
-    flags: &[u16; 16],
+// The two places that two folds of a path's eight leave.
+fn two_folds<A: Fold, B: Fold>(
+    first: &A,
+    second: &B,
     nodes: &[[[u16; 16]; 2]; 16],
     other: u16,
-    high: usize,
-    words: &[u16; 16],
 ) -> [[u16; 16]; 4]
-    requires { (flags.now ≡ lane_bits) × (high < 16) × LanesWithin 4095 nodes.now }
-    ensures { (i l : ℕ) (b : Bool) → i < 2 → l < 16 → two_costs result l i b ≡ free_fold 2 (free_fold 4 (node_costs nodes.now (Bit.bit (bits 16 other)) l)) i b }
+    requires { LanesWithin 4095 nodes.now }
+    ensures { (i l : ℕ) (b : Bool) → i < 2 → l < 16
+        → two_costs result l i b
+        ≡ B.onto second.now l 2 (A.onto first.now l 4 (node_costs nodes.now (Bit.bit (bits 16 other)) l)) i b }
 {
-    let n0 = node(other, 0);
-    let n1 = node(other, 1);
-    let n2 = node(other, 2);
-    let n3 = node(other, 3);
-    let n4 = node(other, 4);
-    let n5 = node(other, 5);
-    let n6 = node(other, 6);
-    let n7 = node(other, 7);
     let mut out = [[0u16; 16]; 4];
-    let mut l: usize = 0;
-    while l < 16 {
-        let even = free_free_at(nodes, n0, n4, n2, n6, l);
+    for l in 0..16 {
+        let p = half(first, nodes, other, 0, l);
+        let q = half(first, nodes, other, 2, l);
+        let even = fold_pair(second.bit(0, l), p, q);
         out[0][l] = even.zero;
         out[1][l] = even.one;
-        let odd = free_free_at(nodes, n1, n5, n3, n7, l);
+        let r = half(first, nodes, other, 1, l);
+        let s = half(first, nodes, other, 3, l);
+        let odd = fold_pair(second.bit(1, l), r, s);
         out[2][l] = odd.zero;
         out[3][l] = odd.one;
-        l += 1;
     }
     out
 }
 
-// where that of the second fold is known,
-fn free_known(
-    flags: &[u16; 16],
-    nodes: &[[[u16; 16]; 2]; 16],
-    other: u16,
-    high: usize,
-    words: &[u16; 16],
-) -> [[u16; 16]; 4]
-    requires { (flags.now ≡ lane_bits) × (high < 16) × LanesWithin 4095 nodes.now }
-    ensures { (i l : ℕ) (b : Bool) → i < 2 → l < 16 → two_costs result l i b ≡ known_fold 2 (λ j. word_at words.now l (high / 4 * 4 + j)) (free_fold 4 (node_costs nodes.now (Bit.bit (bits 16 other)) l)) i b }
+// Four planes, from plane `from` on.
+fn four_from(words: &[u16; 16], from: usize) -> [u16; 4]
+    requires { from ≤ 12 }
+    ensures { (j : ℕ) → j < 4 → get_or result j 0 ≡ get_or words.now (from + j) 0 }
 {
-    let x = of_four(words, high, 0);
-    let y = of_four(words, high, 1);
-    let n0 = node(other, 0);
-    let n1 = node(other, 1);
-    let n2 = node(other, 2);
-    let n3 = node(other, 3);
-    let n4 = node(other, 4);
-    let n5 = node(other, 5);
-    let n6 = node(other, 6);
-    let n7 = node(other, 7);
-    let mut out = [[0u16; 16]; 4];
-    let mut l: usize = 0;
-    while l < 16 {
-        let flag = flags[l];
-        let even = free_known_at(nodes, n0, n4, n2, n6, l, flag, x);
-        out[0][l] = even.zero;
-        out[1][l] = even.one;
-        let odd = free_known_at(nodes, n1, n5, n3, n7, l, flag, y);
-        out[2][l] = odd.zero;
-        out[3][l] = odd.one;
-        l += 1;
-    }
-    out
-}
-
-// where that of the first fold is known,
-fn known_free(
-    flags: &[u16; 16],
-    nodes: &[[[u16; 16]; 2]; 16],
-    other: u16,
-    high: usize,
-    words: &[u16; 16],
-) -> [[u16; 16]; 4]
-    requires { (flags.now ≡ lane_bits) × (high < 16) × LanesWithin 4095 nodes.now }
-    ensures { (i l : ℕ) (b : Bool) → i < 2 → l < 16 → two_costs result l i b ≡ free_fold 2 (known_fold 4 (λ j. word_at words.now l (high / 8 * 8 + j)) (node_costs nodes.now (Bit.bit (bits 16 other)) l)) i b }
-{
-    let w0 = of_eight(words, high, 0);
-    let w1 = of_eight(words, high, 1);
-    let w2 = of_eight(words, high, 2);
-    let w3 = of_eight(words, high, 3);
-    let n0 = node(other, 0);
-    let n1 = node(other, 1);
-    let n2 = node(other, 2);
-    let n3 = node(other, 3);
-    let n4 = node(other, 4);
-    let n5 = node(other, 5);
-    let n6 = node(other, 6);
-    let n7 = node(other, 7);
-    let mut out = [[0u16; 16]; 4];
-    let mut l: usize = 0;
-    while l < 16 {
-        let flag = flags[l];
-        let even = known_free_at(nodes, n0, n4, n2, n6, l, flag, w0, w2);
-        out[0][l] = even.zero;
-        out[1][l] = even.one;
-        let odd = known_free_at(nodes, n1, n5, n3, n7, l, flag, w1, w3);
-        out[2][l] = odd.zero;
-        out[3][l] = odd.one;
-        l += 1;
-    }
-    out
-}
-
-// and where both are.
-fn known_known(
-    flags: &[u16; 16],
-    nodes: &[[[u16; 16]; 2]; 16],
-    other: u16,
-    high: usize,
-    words: &[u16; 16],
-) -> [[u16; 16]; 4]
-    requires { (flags.now ≡ lane_bits) × (high < 16) × LanesWithin 4095 nodes.now }
-    ensures { (i l : ℕ) (b : Bool) → i < 2 → l < 16 → two_costs result l i b ≡ known_fold 2 (λ j. word_at words.now l (high / 4 * 4 + j)) (known_fold 4 (λ j. word_at words.now l (high / 8 * 8 + j)) (node_costs nodes.now (Bit.bit (bits 16 other)) l)) i b }
-{
-    let w0 = of_eight(words, high, 0);
-    let w1 = of_eight(words, high, 1);
-    let w2 = of_eight(words, high, 2);
-    let w3 = of_eight(words, high, 3);
-    let x = of_four(words, high, 0);
-    let y = of_four(words, high, 1);
-    let n0 = node(other, 0);
-    let n1 = node(other, 1);
-    let n2 = node(other, 2);
-    let n3 = node(other, 3);
-    let n4 = node(other, 4);
-    let n5 = node(other, 5);
-    let n6 = node(other, 6);
-    let n7 = node(other, 7);
-    let mut out = [[0u16; 16]; 4];
-    let mut l: usize = 0;
-    while l < 16 {
-        let flag = flags[l];
-        let even = known_known_at(nodes, n0, n4, n2, n6, l, flag, w0, w2, x);
-        out[0][l] = even.zero;
-        out[1][l] = even.one;
-        let odd = known_known_at(nodes, n1, n5, n3, n7, l, flag, w1, w3, y);
-        out[2][l] = odd.zero;
-        out[3][l] = odd.one;
-        l += 1;
-    }
-    out
+    [
+        words[from],
+        words[from + 1],
+        words[from + 2],
+        words[from + 3],
+    ]
 }
 
 // The eight places of a path folded onto two, by whether the first halves are known.
@@ -296,67 +152,57 @@ fn onto_two(
     words: &[u16; 16],
 ) -> [[u16; 16]; 4]
     requires { (flags.now ≡ lane_bits) × (high < 16) × LanesWithin 4095 nodes.now }
-    ensures { (i l : ℕ) (b : Bool) → i < 2 → l < 16 → two_costs result l i b ≡ level 2 (high % 4) (λ j. word_at words.now l (high / 4 * 4 + j)) (level 4 (high % 8) (λ j. word_at words.now l (high / 8 * 8 + j)) (node_costs nodes.now (Bit.bit (bits 16 other)) l)) i b }
+    ensures { (i l : ℕ) (b : Bool) → i < 2 → l < 16
+        → two_costs result l i b
+        ≡ level 2 (high % 4) (λ j. word_at words.now l (high / 4 * 4 + j)) (level 4 (high % 8) (λ j. word_at words.now l (high / 8 * 8 + j)) (node_costs nodes.now (Bit.bit (bits 16 other)) l)) i b }
 {
     if high % 8 < 2 {
-        return free_free(flags, nodes, other, high, words);
+        return two_folds(&SecondFree, &SecondFree, nodes, other);
     }
     if high % 8 < 4 {
-        return free_known(flags, nodes, other, high, words);
+        let planes = four_from(words, high / 4 * 4);
+        return two_folds(&SecondFree, &FirstKnown { flags, planes }, nodes, other);
     }
+    let planes = four_from(words, high / 8 * 8);
+    let first = FirstKnown { flags, planes };
     if high % 8 < 6 {
-        return known_free(flags, nodes, other, high, words);
+        return two_folds(&first, &SecondFree, nodes, other);
     }
-    known_known(flags, nodes, other, high, words)
+    let planes = four_from(words, high / 4 * 4);
+    two_folds(&first, &FirstKnown { flags, planes }, nodes, other)
 }
 
 // Place i of the two, in lane l.
 fn of_two(two: &[[u16; 16]; 4], i: usize, l: usize) -> Pair
     requires { (i < 2) × (l < 16) }
-    ensures { (result.zero ≡ two_costs two.now l i false) × (result.one ≡ two_costs two.now l i true) }
+    ensures { (result.zero ≡ two_costs two.now l i false)
+        × (result.one ≡ two_costs two.now l i true) }
 {
-    let zero = two[2 * i][l];
-    let one = two[2 * i + 1][l];
-    Pair { zero, one }
+    Pair {
+        zero: two[2 * i][l],
+        one: two[2 * i + 1][l],
+    }
 }
 
-// The two places folded onto one under a path's last v, the second one free,
-fn last_free(flags: &[u16; 16], own: u16, two: &[[u16; 16]; 4]) -> [[u16; 16]; 2]
-    requires { (flags.now ≡ lane_bits) × ((i l : ℕ) (b : Bool) → i < 2 → l < 16 → two_costs two.now l i b ≤ 16383) }
-    ensures { (l : ℕ) (b : Bool) → l < 16 → cell 0 result l b ≡ free_fold 1 (two_costs two.now l) 0 (lane_bit own l ⊕ b) }
+// The two places folded onto one under a path's last v.
+fn last_fold<A: Fold>(fold: &A, flags: &[u16; 16], own: u16, two: &[[u16; 16]; 4]) -> [[u16; 16]; 2]
+    requires lanes { flags.now ≡ lane_bits }
+    requires small { (i l : ℕ) (b : Bool) → i < 2 → l < 16 → two_costs two.now l i b ≤ 16383 }
+    ensures { (l : ℕ) (b : Bool) → l < 16
+        → cell 0 result l b ≡ A.onto fold.now l 1 (two_costs two.now l) 0 (lane_bit own l ⊕ b) }
 {
     let mut out = [[0u16; 16]; 2];
-    let mut l: usize = 0;
-    while l < 16 {
-        let last = free(of_two(two, 0, l), of_two(two, 1, l));
+    for l in 0..16 {
+        let last = fold_pair(fold.bit(0, l), of_two(two, 0, l), of_two(two, 1, l));
         let r = turned(has(own, flags[l]), last);
         out[0][l] = r.zero;
         out[1][l] = r.one;
-        l += 1;
     }
     out
 }
 
-// or the first one known.
-fn last_known(flags: &[u16; 16], own: u16, plane: u16, two: &[[u16; 16]; 4]) -> [[u16; 16]; 2]
-    requires { (flags.now ≡ lane_bits) × ((i l : ℕ) (b : Bool) → i < 2 → l < 16 → two_costs two.now l i b ≤ 16383) }
-    ensures { (l : ℕ) (b : Bool) → l < 16 → cell 0 result l b ≡ known_fold 1 (λ _. lane_bit plane l) (two_costs two.now l) 0 (lane_bit own l ⊕ b) }
-{
-    let mut out = [[0u16; 16]; 2];
-    let mut l: usize = 0;
-    while l < 16 {
-        let flag = flags[l];
-        let last = known(has(plane, flag), of_two(two, 0, l), of_two(two, 1, l));
-        let r = turned(has(own, flag), last);
-        out[0][l] = r.zero;
-        out[1][l] = r.one;
-        l += 1;
-    }
-    out
-}
-
-// The least totals of a path with symbol 0 and with symbol 1, from the nodes that it chooses: its words are those of the planes,
-// and the last v that it uses is v high.
+/// The least totals of a path with symbol 0 and with symbol 1, from the nodes that it chooses: its words are those of the planes,
+/// and the last v that it uses is v high.
 pub fn path_pair(
     flags: &[u16; 16],
     nodes: &[[[u16; 16]; 2]; 16],
@@ -365,11 +211,13 @@ pub fn path_pair(
     words: &[u16; 16],
 ) -> [[u16; 16]; 2]
     requires { (flags.now ≡ lane_bits) × (high < 16) × LanesWithin 4095 nodes.now }
-    ensures { (l : ℕ) (b : Bool) → l < 16 → cell 0 result l b ≡ folded 3 (high % 8) (λ j. word_at words.now l (high / 8 * 8 + j)) (node_costs nodes.now (Bit.bit (bits 16 other)) l) 0 (word_at words.now l high ⊕ b) }
+    ensures { (l : ℕ) (b : Bool) → l < 16
+        → cell 0 result l b ≡ folded 3 (high % 8) (λ j. word_at words.now l (high / 8 * 8 + j)) (node_costs nodes.now (Bit.bit (bits 16 other)) l) 0 (word_at words.now l high ⊕ b) }
 {
     let two = onto_two(flags, nodes, other, high, words);
     if high % 2 == 0 {
-        return last_free(flags, words[high], &two);
+        return last_fold(&SecondFree, flags, words[high], &two);
     }
-    last_known(flags, words[high], words[high - 1], &two)
+    let planes = [words[high - 1], 0, 0, 0];
+    last_fold(&FirstKnown { flags, planes }, flags, words[high], &two)
 }

@@ -8,21 +8,21 @@ ghost use Rattle.folds.specs.Rows.{cell, least_to};
 ghost use Rattle.lane.specs.Lanes.{lane_bits, lane_bit, lane_costs};
 
 // A row of the symbols that a plane has.
+// The masks of the lanes are lent: see `lane::flags`.
 fn kept_row(flags: &[u16; 16], plane: u16, pair: &[[u16; 16]; 2]) -> [u16; 16]
     requires { flags.now ≡ lane_bits }
     ensures { (l : ℕ) → l < 16 → get_or result l 0 ≡ cell 0 pair.now l (lane_bit plane l) }
 {
     let mut out = [0u16; 16];
-    let mut l: usize = 0;
-    while l < 16 {
+    for (l, o) in out.iter_mut().enumerate() {
         let both = lane::at(pair, l);
-        out[l] = lane::pick(lane::has(plane, flags[l]), both.zero, both.one);
-        l += 1;
+        let one = lane::has(plane, flags[l]);
+        *o = if one { both.one } else { both.zero };
     }
     out
 }
 
-// The rows of the symbols that were chosen at the phase before, which has n paths.
+/// The rows of the symbols that were chosen at the phase before, which has n paths.
 pub fn kept_rows(
     flags: &[u16; 16],
     plane: u16,
@@ -33,26 +33,18 @@ pub fn kept_rows(
     ensures { (w l : ℕ) → w < n → l < 16 → get_or (get_or result w []) l 0 ≡ lane_costs rows.now l w (lane_bit plane l) }
 {
     let mut out = [[0u16; 16]; 16];
-    let mut w: usize = 0;
-    while w < n {
+    // A count beside the rows: a phase has room for sixteen paths, and uses as many as it has.
+    for w in 0..n {
         out[w] = kept_row(flags, plane, &rows[w]);
-        w += 1;
     }
     out
 }
 
-// In each lane the entry of the path whose number is the lane's and c.
+/// In each lane the entry of the path whose number is the lane's and c.
 pub fn gathered(numbers: &[u16; 16], c: u16, kept: &[[u16; 16]; 16]) -> [u16; 16]
     ensures { (l : ℕ) → l < 16 → get_or result l 0 ≡ get_or (get_or kept.now (bit_xor (get_or numbers.now l 0) c % 16) []) l 0 }
 {
-    let mut out = [0u16; 16];
-    let mut l: usize = 0;
-    while l < 16 {
-        let w = (numbers[l] ^ c) % 16;
-        out[l] = kept[w as usize][l];
-        l += 1;
-    }
-    out
+    arrays::filled(0, |l| kept[usize::from((numbers[l] ^ c) % 16)][l])
 }
 
 // The least of three entries in each lane, for symbol 0 and for symbol 1. With two entries the loop is so short that the compiler
@@ -61,14 +53,9 @@ fn least_three(found: &[[u16; 16]; 2], p: &[[u16; 16]; 2], q: &[[u16; 16]; 2]) -
     ensures { (l : ℕ) (b : Bool) → l < 16 → cell 0 result l b ≡ min (min (cell 0 found.now l b) (cell 0 p.now l b)) (cell 0 q.now l b) }
 {
     let mut out = [[0u16; 16]; 2];
-    let mut l: usize = 0;
-    while l < 16 {
-        let least = lane::at(found, l);
-        let first = lane::at(p, l);
-        let second = lane::at(q, l);
-        out[0][l] = lane::lesser(lane::lesser(least.zero, first.zero), second.zero);
-        out[1][l] = lane::lesser(lane::lesser(least.one, first.one), second.one);
-        l += 1;
+    for l in 0..16 {
+        out[0][l] = found[0][l].min(p[0][l]).min(q[0][l]);
+        out[1][l] = found[1][l].min(p[1][l]).min(q[1][l]);
     }
     out
 }
@@ -78,20 +65,20 @@ fn path_after(w: usize, n: usize) -> usize
     requires { w < n }
     ensures { result ≡ min (w + 1) (n - 1) }
 {
-    if w + 1 < n { w + 1 } else { w }
+    (w + 1).min(n - 1)
 }
 
-// The least of n paths in each lane, for symbol 0 and for symbol 1.
+/// The least of n paths in each lane, for symbol 0 and for symbol 1.
 pub fn least_pair(rows: &[[[u16; 16]; 2]; 16], n: usize) -> [[u16; 16]; 2]
     requires { (0 < n) × (n ≤ 16) }
     ensures { (l : ℕ) (b : Bool) → l < 16 → cell 0 result l b ≡ least_to (λ w. lane_costs rows.now l w b) (n - 1) }
 {
+    // A count beside the rows, as in `kept_rows`.
     let mut found = rows[0];
-    let mut w: usize = 1;
-    while w < n {
+    for w in (1..n).step_by(2) {
+        // By a local first: the checker does not take a call's result that is stored into an array the call reads.
         let next = least_three(&found, &rows[w], &rows[path_after(w, n)]);
         found = next;
-        w += 2;
     }
     found
 }
@@ -100,21 +87,15 @@ pub fn least_pair(rows: &[[[u16; 16]; 2]; 16], n: usize) -> [[u16; 16]; 2]
 fn less(a: u16, b: u16) -> i32
     ensures { result ≡ sub_ℕ a b }
 {
-    a as i32 - b as i32
+    i32::from(a) - i32::from(b)
 }
 
-// The scores of a phase with n paths: in each lane the least for symbol 1 less that for symbol 0.
+/// The scores of a phase with n paths: in each lane the least for symbol 1 less that for symbol 0.
 pub fn scores(rows: &[[[u16; 16]; 2]; 16], n: usize) -> [i32; 16]
     requires { (0 < n) × (n ≤ 16) }
     ensures { (l : ℕ) → l < 16 → get_or result l (pos 0) ≡ sub_ℕ (least_to (λ w. lane_costs rows.now l w true) (n - 1)) (least_to (λ w. lane_costs rows.now l w false) (n - 1)) }
 {
+    // A count beside the rows, as in `kept_rows`.
     let least = least_pair(rows, n);
-    let mut out = [0i32; 16];
-    let mut l: usize = 0;
-    while l < 16 {
-        let both = lane::at(&least, l);
-        out[l] = less(both.one, both.zero);
-        l += 1;
-    }
-    out
+    arrays::filled(0, |l| less(least[1][l], least[0][l]))
 }

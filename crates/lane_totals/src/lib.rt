@@ -1,8 +1,9 @@
 // The least totals of a phase of sixteen kernels side by side, lane by lane. A lane that lacks the rows of the phase before, where
 // these are asked for, gets no totals, and the others get theirs.
+// A kernel is its number, below 3: public functions take it so, and it indexes tables as it stands.
 #![tactic(auto)]
 
-ghost use Rattle.std.specs.Prelude.{◌≡◌, true, false, [], ℕ, ◌-◌, ◌^◌, ◌≤◌, ◌<◌, length, get_or};
+ghost use Rattle.std.specs.Prelude.{◌≡◌, true, false, [], ℕ, ◌-◌, ◌^◌, ◌≤◌, ◌<◌, get_or, length};
 ghost use Rattle.windows.specs.Tables.{shape_table, shape_at};
 ghost use Rattle.lane.specs.Lanes.{LanesWithin};
 ghost use Rattle.lane_phases.specs.Rows.{HeldLane, KeptLane};
@@ -10,6 +11,7 @@ ghost use Rattle.lane_step.specs.Step.{Halves};
 ghost use Rattle.lane_totals.specs.Totals.{Again, TablesOf, LeastLane};
 
 // One phase of each lane: it leaves the rows of this phase, and hands back the number of its paths.
+// Its parameters are those of `totals` and of `lane_step::next_rows`, which keep theirs: a struct would be made to be taken apart.
 fn stepped(
     kernel: usize,
     phase: usize,
@@ -22,9 +24,8 @@ fn stepped(
 ) -> usize
     requires kernel_bound { (kernel < 3) × (phase < 16) }
     requires tables_of { TablesOf kernel shapes.now tables.now }
-    requires lanes_within { LanesWithin 2047 costs.now × LanesWithin 4095 halves.now × Halves costs.now halves.now × (length rows.old ≡ 16) }
+    requires lanes_within { LanesWithin 2047 costs.now × LanesWithin 4095 halves.now × Halves costs.now halves.now }
     ensures paths { result ≡ 2 ^ (shape_at kernel phase 0 - phase) }
-    ensures room { length rows.new ≡ 16 }
     ensures held { (l : ℕ) → l < 16 → (0 < phase → Again kernel phase → KeptLane kernel costs.now planes.now phase rows.old l) → HeldLane kernel costs.now planes.now phase rows.new l }
 {
     let shape = shapes[phase];
@@ -43,7 +44,8 @@ fn stepped(
     step::path_count(shape, phase)
 }
 
-// The least totals of a phase in each lane, with symbol 0 and with symbol 1; it leaves the rows of this phase.
+/// The least totals of a phase in each lane, with symbol 0 and with symbol 1; it leaves the rows of this phase.
+// Its parameters stay: docs/ARCHITECTURE.md names it.
 pub fn totals(
     kernel: usize,
     phase: usize,
@@ -56,7 +58,7 @@ pub fn totals(
 ) -> [[u16; 16]; 2]
     requires kernel_bound { (kernel < 3) × (phase < 16) }
     requires tables_of { TablesOf kernel shapes.now tables.now }
-    requires lanes_within { LanesWithin 2047 costs.now × LanesWithin 4095 halves.now × Halves costs.now halves.now × (length rows.old ≡ 16) }
+    requires lanes_within { LanesWithin 2047 costs.now × LanesWithin 4095 halves.now × Halves costs.now halves.now }
     ensures room { length rows.new ≡ 16 }
     ensures lanes { (l : ℕ) → l < 16 → (0 < phase → Again kernel phase → KeptLane kernel costs.now planes.now phase rows.old l) → HeldLane kernel costs.now planes.now phase rows.new l × LeastLane kernel costs.now planes.now phase result l }
 {
@@ -64,28 +66,29 @@ pub fn totals(
     lane_rows::least_pair(rows, paths)
 }
 
-// Whether the relations of a phase reach no further than before. Those of phase 0 do.
+/// Whether the relations of a phase reach no further than before. Never so at phase 0.
 pub fn again(kernel: usize, shapes: &[[u8; 2]; 16], phase: usize) -> bool
     requires { (kernel < 3) × (phase < 16) × (shapes.now ≡ get_or shape_table kernel []) }
     ensures { (result ≡ true → (0 < phase) × Again kernel phase) × (result ≡ false → shape_at kernel phase 1 ≡ 0) }
 {
-    let shape = shapes[phase];
-    shape[1] != 0
+    shapes[phase][1] != 0
 }
 
-// The last phase up to this one whose relations reach further than those before it: rows can be made anew from there.
+/// The last phase up to this one whose relations reach further than those before it: rows can be made anew from there.
 pub fn opening(kernel: usize, shapes: &[[u8; 2]; 16], phase: usize) -> usize
     requires { (kernel < 3) × (phase < 16) × (shapes.now ≡ get_or shape_table kernel []) }
     ensures { (result ≤ phase) × (shape_at kernel result 1 ≡ 0) × ((q : ℕ) → result < q → q ≤ phase → Again kernel q) }
 {
     let mut q = phase;
+    // A while: phase 0 ends it at the latest, and a search backwards would need an answer for none.
     while again(kernel, shapes, q) {
         q -= 1;
     }
     q
 }
 
-// The totals of a phase, with the phases from `first` on stepped before it over the same symbols.
+/// The totals of a phase, with the phases from `first` on stepped before it over the same symbols.
+// Its parameters are those of `totals`, and the first phase.
 pub fn totals_from(
     kernel: usize,
     first: usize,
@@ -99,14 +102,12 @@ pub fn totals_from(
 ) -> [[u16; 16]; 2]
     requires kernel_bound { (kernel < 3) × (phase < 16) × (first ≤ phase) }
     requires tables_of { TablesOf kernel shapes.now tables.now }
-    requires lanes_within { LanesWithin 2047 costs.now × LanesWithin 4095 halves.now × Halves costs.now halves.now × (length rows.old ≡ 16) }
+    requires lanes_within { LanesWithin 2047 costs.now × LanesWithin 4095 halves.now × Halves costs.now halves.now }
     ensures room { length rows.new ≡ 16 }
     ensures lanes { (l : ℕ) → l < 16 → (0 < first → Again kernel first → KeptLane kernel costs.now planes.now first rows.old l) → HeldLane kernel costs.now planes.now phase rows.new l × LeastLane kernel costs.now planes.now phase result l }
 {
-    let mut q = first;
-    while q < phase {
+    for q in first..phase {
         stepped(kernel, q, shapes, tables, costs, halves, planes, rows);
-        q += 1;
     }
     totals(kernel, phase, shapes, tables, costs, halves, planes, rows)
 }

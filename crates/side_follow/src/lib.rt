@@ -1,7 +1,9 @@
 // Sixteen kernels followed side by side along given symbols, for tests alone: the library for C has this engine only within frames.
+// A kernel is its number, below 3: public functions take it so, and it indexes tables as it stands.
 #![tactic(auto)]
 
 ghost use Rattle.std.specs.Prelude.{◌≡◌, Bool, [], ℕ, ◌+◌, ◌*◌, ◌≤◌, ◌<◌, pos, nat_abs, length, get_or};
+ghost use Rattle.base.specs.Place.{FoundBelow};
 ghost use Rattle.base.proofs.List.{filled};
 ghost use Rattle.polar.specs.Code.{pay, score};
 ghost use Rattle.folds.specs.Range.{first_outside};
@@ -12,7 +14,7 @@ ghost use Rattle.lane_phases.specs.Rows.{column};
 ghost use Rattle.side_follow.specs.Follow.{side_accepted, side_follow};
 ghost use Rattle.side_follow.specs.Rows.{phase_major};
 
-// The scores of all phases, in each lane.
+/// The scores of all phases, in each lane.
 pub fn run(kernel: usize, costs: &[[[u16; 16]; 2]; 16], planes: &[u16; 16]) -> [[i32; 16]; 16]
     requires { (kernel < 3) × LanesWithin 2047 costs.now }
     ensures { (s l : ℕ) → s < 16 → l < 16 → get_or (get_or result s []) l (pos 0) ≡ score (kernel_code kernel) (lane_costs costs.now l) (column planes.now s l) }
@@ -23,36 +25,19 @@ pub fn run(kernel: usize, costs: &[[[u16; 16]; 2]; 16], planes: &[u16; 16]) -> [
     let halves = lane_nodes::free_eight(costs);
     let mut rows = [[[0u16; 16]; 2]; 16];
     let mut out = [[0i32; 16]; 16];
-    let mut s: usize = 0;
-    while s < 16 {
-        let shape = shapes[s];
+    for s in 0..16 {
         out[s] = lane_step::step(
-            kernel, s, shape, &flags, &tables[s], costs, &halves, planes, &mut rows,
+            kernel, s, shapes[s], &flags, &tables[s], costs, &halves, planes, &mut rows,
         );
-        s += 1;
     }
     out
 }
 
-// The size of a value.
-fn size(y: i16) -> u16
-    ensures { result ≡ nat_abs y }
+// The lowest index whose value is beyond 2047 in size, if there is one.
+fn first_outside(values: &[i16]) -> Option<usize>
+    ensures { FoundBelow (length values.now) (first_outside 2047 values.now) result }
 {
-    folds::size(y as i32) as u16
-}
-
-// The lowest index whose value is beyond 2047 in size, or the number of values.
-fn first_outside(values: &[i16]) -> usize
-    ensures { result ≡ first_outside 2047 values.now }
-{
-    let mut i: usize = 0;
-    while i < values.len() {
-        if 2047 < size(values[i]) {
-            return i;
-        }
-        i += 1;
-    }
-    i
+    values.iter().position(|y| 2047 < y.unsigned_abs())
 }
 
 // What place t pays, by bit and lane.
@@ -61,16 +46,14 @@ fn place_costs(values: &[i16], t: usize) -> [[u16; 16]; 2]
     ensures { (l : ℕ) (b : Bool) → l < 16 → cell 0 result l b ≡ pay (get_or values.now (16 * t + l) (pos 0)) b }
 {
     let mut out = [[0u16; 16]; 2];
-    let mut l: usize = 0;
-    while l < 16 {
+    for l in 0..16 {
         let y = values[16 * t + l];
-        let paid = size(y);
+        let paid = y.unsigned_abs();
         if y < 0 {
             out[0][l] = paid;
         } else {
             out[1][l] = paid;
         }
-        l += 1;
     }
     out
 }
@@ -81,10 +64,8 @@ fn lane_costs(values: &[i16]) -> [[[u16; 16]; 2]; 16]
     ensures { (t : ℕ) → t < 16 → (l : ℕ) (b : Bool) → l < 16 → lane_costs result l t b ≡ pay (get_or values.now (16 * t + l) (pos 0)) b }
 {
     let mut out = [[[0u16; 16]; 2]; 16];
-    let mut t: usize = 0;
-    while t < 16 {
-        out[t] = place_costs(values, t);
-        t += 1;
+    for (t, o) in out.iter_mut().enumerate() {
+        *o = place_costs(values, t);
     }
     out
 }
@@ -95,11 +76,7 @@ fn planes_of(planes: &[u16]) -> [u16; 16]
     ensures { result ≡ planes.now }
 {
     let mut out = [0u16; 16];
-    let mut s: usize = 0;
-    while s < 16 {
-        out[s] = planes[s];
-        s += 1;
-    }
+    out.copy_from_slice(planes);
     out
 }
 
@@ -108,33 +85,24 @@ fn store(found: &[[i32; 16]; 16], scores: &mut [i32])
     requires { 256 ≤ length scores.old }
     ensures { scores.new ≡ filled (phase_major found.now) 256 scores.old }
 {
-    let mut i: usize = 0;
-    while i < 256 {
+    for i in 0..256 {
         scores[i] = found[i / 16][i % 16];
-        i += 1;
     }
 }
 
 // Whether a request is accepted.
+#[tactic(auto, unfolding(crate::specs::Follow::side_accepted))]
 fn accepted(kernel: u8, values: &[i16], planes: usize, room: usize) -> bool
     ensures { result ≡ side_accepted kernel values.now planes room }
 {
-    if !kernel::is_kernel(kernel) {
-        return false;
-    }
-    if values.len() != 256 {
-        return false;
-    }
-    if first_outside(values) != 256 {
-        return false;
-    }
-    if planes != 16 {
-        return false;
-    }
-    !(room < 256)
+    kernel::is_kernel(kernel)
+        && values.len() == 256
+        && first_outside(values).is_none()
+        && planes == 16
+        && 256 <= room
 }
 
-// The scores of sixteen symbols in each of sixteen lanes; whether the request was accepted.
+/// The scores of sixteen symbols in each of sixteen lanes; whether the request was accepted.
 #[unsafe(no_mangle)]
 pub extern "C" fn nospridda_test_side_follow(
     kernel: u8,

@@ -1,10 +1,7 @@
-use Prim.Native.Nat.{◌+◌, ◌-◌, ◌*◌, ◌≤◌}
+use Prim.Native.Nat.{◌+◌, ◌*◌}
 use Rattle.polar.specs.Code.{channel}
 use Rattle.folds.proofs.Fill.{Filled}
 use Rattle.lane_costs.proofs.place_costs.Given as goal
 
 abbrev pub invariant-loop-j : goal.invariant-loop-j
-invariant-loop-j l = (l.j ≤ 16) × Filled 0 16 l.j (λ i. channel l.values (16 * i + l.t)) l.out
-
-abbrev pub decreases-loop-j : goal.decreases-loop-j
-decreases-loop-j l = 16 - l.j
+invariant-loop-j l = Filled 0 16 l.j (λ i. channel l.values (16 * i + l.t)) l.out

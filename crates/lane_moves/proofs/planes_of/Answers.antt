@@ -5,19 +5,12 @@ use Prim.Native.Nat.{ℕ}
 use native.Mathlib.Omega.{arith}
 use lib.ListN.{get_or}
 use Rattle.lane_moves.proofs.Planes.{planed-none, planed-next}
-use borrow.Author.Rules.{rules}
 use Rattle.lane_moves.proofs.planes_of.Goals as goal
 
 pub loop-l-init : goal.loop-l-init
-loop-l-init c = (search rules, search rules, planed-none c.args.words.now)
+loop-l-init c = planed-none c.args.words.now
 
 pub loop-l-preserved : goal.loop-l-preserved
 loop-l-preserved c =
     let k = c.loop-l in
-    let a = c.args in
-    (search rules, search rules, planed-next a.words.now k.planes _ k.l _ (search rules) (ap (λ (f : List ℕ). get_or f k.l 0) k.invariant.1) k.invariant.2 c.with_plane-next.ensures)
-
-pub returns : goal.returns
-returns c =
-    let k = c.loop-l in
-    λ s l ls ll. k.invariant.2.done s l ls (omega arith)
+    planed-next c.args.words.now k.planes _ k.l _ (omega arith) (ap (λ (f : List ℕ). get_or f k.l 0) c.flags-flags.ensures) k.invariant c.with_plane-next.ensures

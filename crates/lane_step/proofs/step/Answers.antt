@@ -19,50 +19,23 @@ use Rattle.lane_step.proofs.step.Goals as goal
 some-paths : (d : ℕ) → d ≤ 4 → (0 < 1 * 2 ^ d % 2 ^ 64) × (1 * 2 ^ d % 2 ^ 64 ≤ 16)
 some-paths d l = (rw (paths-are d l) (pow_pos d), rw (paths-are d l) (pow-le d l))
 
-pub next_rows-requires : goal.next_rows-requires
-next_rows-requires c =
-    let p = c.requires in
-    record {
-      kernel_bound = p.kernel_bound;
-      shape_value = p.shape_value;
-      lanes_within = (p.lanes_within.0, λ _. (p.lanes_within.1, p.lanes_within.2));
-      rows_len = p.rows_len.0;
-    }
-
-pub overflow_sub-high : goal.overflow_sub-high
-overflow_sub-high c =
-    let s = c in
-    let p = s.requires in
-    (in-range s.args.kernel s.args.phase p.kernel_bound.0 p.kernel_bound.1 0 s.args.shape p.shape_value.0).0
-
-pub overflow_shl-high : goal.overflow_shl-high
-overflow_shl-high c =
-    let s = c in
-    let p = s.requires in
-    omega (arith, (in-range s.args.kernel s.args.phase p.kernel_bound.0 p.kernel_bound.1 0 s.args.shape p.shape_value.0).2)
-
 pub scores-requires : goal.scores-requires
 scores-requires c =
-    let s = c in
-    let p = s.requires in
-    some-paths (get_or s.args.shape 0 0 - s.args.phase) (in-range s.args.kernel s.args.phase p.kernel_bound.0 p.kernel_bound.1 0 s.args.shape p.shape_value.0).2
+    let a = c.args in
+    let p = c.requires in
+    some-paths (get_or a.shape 0 0 - a.phase) (in-range a.kernel a.phase p.kernel_bound.0 p.kernel_bound.1 0 a.shape p.shape_value.0).2
 
-pub returns : goal.returns
-returns c =
-    let n = c in
-    let s = n in
-    let a = s.args in
-    let p = s.requires in
-    let rows = n.next_rows.new.rows in
+pub returns-clause-scores : goal.returns-clause-scores
+returns-clause-scores c =
+    let a = c.args in
+    let p = c.requires in
+    let rows = c.next_rows.new.rows in
     let r = in-range a.kernel a.phase p.kernel_bound.0 p.kernel_bound.1 0 a.shape p.shape_value.0 in
     let e : get_or a.shape 0 0 ≡ shape_at a.kernel a.phase 0 = ap (λ l. get_or l 0 0) p.shape_value.0 in
     let d : shape_at a.kernel a.phase 0 - a.phase ≤ 4 = omega (arith, e, r.2) in
-    let held : HeldLanes a.kernel a.costs.now a.planes.now a.phase rows = λ l ll. n.next_rows.ensures.held l ll (λ late f. p.rows_len.1 late f l ll) in record {
-      room = n.next_rows.ensures.room;
-      held = held;
-      scores = λ l ll.
-          c.scores.ensures l ll
-          ∙ ap (λ m. sub_ℕ (least_to (λ w. lane_costs rows l w true) (m - 1)) (least_to (λ w. lane_costs rows l w false) (m - 1)))
-          (paths-are (get_or a.shape 0 0 - a.phase) r.2 ∙ ap (λ h. 2 ^ (h - a.phase)) e)
-          ∙ lane-score a.kernel a.phase p.kernel_bound.0 p.kernel_bound.1 a.costs.now a.planes.now l rows d (held l ll);
-    }
+    let held : HeldLanes a.kernel a.costs.now a.planes.now a.phase rows = λ l ll. c.next_rows.ensures.held l ll (λ late f. p.kept late f l ll) in
+    λ l ll.
+    c.scores.ensures l ll
+    ∙ ap (λ m. sub_ℕ (least_to (λ w. lane_costs rows l w true) (m - 1)) (least_to (λ w. lane_costs rows l w false) (m - 1)))
+    (paths-are (get_or a.shape 0 0 - a.phase) r.2 ∙ ap (λ h. 2 ^ (h - a.phase)) e)
+    ∙ lane-score a.kernel a.phase p.kernel_bound.0 p.kernel_bound.1 a.costs.now a.planes.now l rows d (held l ll)

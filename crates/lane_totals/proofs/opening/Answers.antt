@@ -15,22 +15,8 @@ one_more k q n f h p l m = go (dec_lt q p)
     go (yes g) = h p g m
     go (no g) = let e : p ≡ q = omega arith in subst⁻¹ (λ s. Again k s) e f
 
-pub loop-q-init : goal.loop-q-init
-loop-q-init c = (search rules, λ p l g. absurd (omega arith))
-
-pub overflow_sub-q : goal.overflow_sub-q
-overflow_sub-q c = (c.again.ensures.0 c.loop-q-test.true).0
-
-pub loop-q-smaller : goal.loop-q-smaller
-loop-q-smaller c = omega (arith, (c.again.ensures.0 c.loop-q-test.true).0)
-
 pub loop-q-preserved : goal.loop-q-preserved
 loop-q-preserved c =
     let k = c.loop-q in
     let a = c.args in
     (search rules, one_more a.kernel k.q a.phase (c.again.ensures.0 c.loop-q-test.true).1 k.invariant.1)
-
-pub returns : goal.returns
-returns c =
-    let k = c.loop-q in
-    (k.invariant.0, c.again.ensures.1 c.loop-q-test.false, k.invariant.1)

@@ -1,35 +1,15 @@
--- `side_follow::first_outside` meets its contract. The search has passed i values, and its answer is i more than that for the others. Assumes nothing.
-use mathlib.Core.Path.{◌≡◌, sym, ap, ◌∙◌}
-use native.Mathlib.Nat.{zero-add}
-use native.Mathlib.Omega.{arith}
-use borrow.Author.Rules.{rules, sfits_of}
-use borrow.Author.Tests.{lt-leb, le-leb}
-use lib.IntN.{pos, nat_abs}
-use lib.ListN.{get_or}
-use Rattle.folds.proofs.Range.{found, passed, passed-all}
-use Rattle.side_follow.proofs.Values.{read_is}
+-- `side_follow::first_outside` meets its contract. Assumes nothing.
+use borrow.Author.Rules.{rules}
+use lib.Dec.{ltb}
+use lib.IntN.{nat_abs}
+use Rattle.std.proofs.Common.{tests}
+use Rattle.std.proofs.lemmas.Iterator.{YieldsList-from_slice}
+use Rattle.std.proofs.lemmas.Iterator.Search.{position_from_yields_List}
+use Rattle.folds.proofs.Range.{position-outside}
 use Rattle.side_follow.proofs.first_outside.Goals as goal
-use Rattle.side_follow.proofs.first_outside.Goals.{After-size}
-
--- The size that is tested.
-sized : (c : After-size) → c.size.result ≡ nat_abs (get_or c.args.values.now c.loop-i.i (pos 0))
-sized c =
-    c.size.ensures ∙ ap nat_abs (read_is (get_or c.args.values.now c.loop-i.i (pos 0)) (sfits_of c.size-arg-1.given))
-
-pub loop-i-init : goal.loop-i-init
-loop-i-init c = (search rules, sym (zero-add _))
-
-pub returns-then-size-gt2047 : goal.returns-then-size-gt2047
-returns-then-size-gt2047 c =
-    let l = c.loop-i in
-    let a = c.args in
-    found 2047 a.values.now l.i (search rules) l.invariant.1 (lt-leb (nat_abs (get_or a.values.now l.i (pos 0))) 2047 (omega (arith, sized (goal.at.returns-then-size-gt2047 c).After-size, c.if-size-gt2047.true)))
-
-pub loop-i-preserved : goal.loop-i-preserved
-loop-i-preserved c =
-    let l = c.loop-i in
-    let a = c.args in
-    (search rules, passed 2047 a.values.now l.i (search rules) l.invariant.1 (le-leb (nat_abs (get_or a.values.now l.i (pos 0))) 2047 (omega (arith, sized (goal.at.loop-i-preserved c).After-size, c.if-size-gt2047.false))))
 
 pub returns : goal.returns
-returns c = passed-all 2047 c.args.values.now c.loop-i.i c.loop-i.invariant.0 (search rules) c.loop-i.invariant.1
+returns c =
+    let a = c.args in
+    let e = position_from_yields_List (λ y. ltb 2047 (nat_abs y)) _ _ c.position.result c.position.ensures.ran (YieldsList-from_slice a.values.now cc) (λ x b q k. search (rules, tests)) in
+    rw e (position-outside 2047 a.values.now)

@@ -1,4 +1,4 @@
-use Prim.Native.Nat.{◌+◌, ◌-◌, ◌*◌, ◌≤◌}
+use Prim.Native.Nat.{◌+◌, ◌*◌}
 use lib.IntN.{pos}
 use lib.ListN.{get_or}
 use Rattle.polar.specs.Code.{pay}
@@ -6,7 +6,4 @@ use Rattle.folds.proofs.Fill.{Filled}
 use Rattle.side_follow.proofs.place_costs.Given as goal
 
 abbrev pub invariant-loop-l : goal.invariant-loop-l
-invariant-loop-l l = (l.l ≤ 16) × Filled 0 16 l.l (λ ll. pay (get_or l.values (16 * l.t + ll) (pos 0))) l.out
-
-abbrev pub decreases-loop-l : goal.decreases-loop-l
-decreases-loop-l l = 16 - l.l
+invariant-loop-l l = Filled 0 16 l.l (λ ll. pay (get_or l.values (16 * l.t + ll) (pos 0))) l.out

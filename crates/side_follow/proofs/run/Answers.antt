@@ -11,7 +11,7 @@ pub free_eight-halves-requires : goal.free_eight-halves-requires
 free_eight-halves-requires c = λ j lj l b ll. omega (arith, c.requires.1 j lj l b ll)
 
 pub loop-s-init : goal.loop-s-init
-loop-s-init c = let r = c in no-phase r.args.kernel r.args.costs.now r.args.planes.now _ _ refl refl
+loop-s-init c = let r = c in no-phase r.args.kernel r.args.costs.now r.args.planes.now _ _ refl
 
 pub step-requires : goal.step-requires
 step-requires c =
@@ -21,7 +21,7 @@ step-requires c =
       kernel_bound = (z.requires.0, search rules, c.flags-flags.ensures);
       shape_value = (ap (λ t. get_or t l.s []) c.shapes_of-shapes.ensures, ap (λ t. get_or t l.s []) c.tables_of-tables.ensures);
       lanes_within = (z.requires.1, λ j lj p b lp. omega (arith, h.within 2047 z.requires.1 j lj p b lp), h.nodes);
-      rows_len = (l.invariant.row_room, λ z _. l.invariant.kept-so z);
+      kept = λ z _. l.invariant.kept-so z;
     }
 
 pub loop-s-preserved : goal.loop-s-preserved
@@ -30,7 +30,7 @@ loop-s-preserved c =
     let z = c in
     let t = c.step in
     phase-next z.args.kernel z.args.costs.now z.args.planes.now l.s (search rules) l.rows l.out l.invariant
-    t.new.rows t.ensures.room t.ensures.held t.result t.ensures.scores
+    t.new.rows t.ensures.held t.result t.ensures.scores
 
 pub returns : goal.returns
 returns c = λ s l ls ll. c.loop-s.invariant.scores-so s (omega arith) l ll

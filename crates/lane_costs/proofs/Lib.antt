@@ -1,2 +1,0 @@
-pub mod Widened
-pub mod Narrow
