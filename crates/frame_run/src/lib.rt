@@ -12,16 +12,10 @@ fn kernel_values(values: &[i8]) -> [i32; 16]
     requires { length values.now ≡ 16 }
     ensures { (i : ℕ) → i < 16 → get_or result i (pos 0) ≡ get_or values.now i (pos 0) }
 {
-    let mut out = [0i32; 16];
-    let mut i: usize = 0;
-    while i < 16 {
-        out[i] = values[i] as i32;
-        i += 1;
-    }
-    out
+    arrays::filled(0, |i| i32::from(values[i]))
 }
 
-// One layer: the kernel's own run.
+// One layer: the kernel's own run. Each run takes the parameters of `triple_run`, which is public: so no struct gathers them.
 fn single_run(
     kernels: [u8; 3],
     values: &[i8],
@@ -34,8 +28,7 @@ fn single_run(
 {
     let wide = kernel_values(values);
     let row = hadamard_run::hadamard_run(kernels[0] as usize, &wide, free[0], given[0]);
-    let taken = row.scores;
-    pair_run::store_scores(taken, 0, scores);
+    scores[..16].copy_from_slice(&row.scores);
     let mut symbols = [0u16; 256];
     symbols[0] = row.symbols;
     symbols
@@ -62,14 +55,12 @@ fn double_run(
         0,
         scores,
     );
-    let taken = run.symbols;
     let mut symbols = [0u16; 256];
-    triple_run::put_rows(taken, 0, &mut symbols);
+    symbols[..16].copy_from_slice(&run.symbols);
     symbols
 }
 
-// The run of m layers. The last line is not reached: the compiler does not merge a function that calls itself with callees that
-// have large arrays, and so a frame of few layers does not take the stack of the largest.
+// The run of m layers.
 fn layers_run(
     m: usize,
     kernels: [u8; 3],
@@ -82,19 +73,17 @@ fn layers_run(
     requires values_len { (length values.now ≡ 16 ^ m) × (first_outside 127 values.now ≡ 16 ^ m) × (16 ^ m ≤ length scores.old) }
     ensures { Scored kernels m values.now free.now given.now result scores.new scores.old }
 {
-    if m == 1 {
-        return single_run(kernels, values, free, given, scores);
+    match m {
+        1 => single_run(kernels, values, free, given, scores),
+        2 => double_run(kernels, values, free, given, scores),
+        3 => triple_run::triple_run(kernels, values, free, given, scores),
+        // Not reached: the compiler does not merge a function that calls itself with callees that have large arrays, and so
+        // a frame of few layers does not take the stack of the largest.
+        _ => layers_run(m - 1, kernels, values, free, given, scores),
     }
-    if m == 2 {
-        return double_run(kernels, values, free, given, scores);
-    }
-    if m == 3 {
-        return triple_run::triple_run(kernels, values, free, given, scores);
-    }
-    layers_run(m - 1, kernels, values, free, given, scores)
 }
 
-// The run of a frame: a symbol is the sign of its score where it is free, else the one that is given.
+/// The run of a frame: a symbol is the sign of its score where it is free, else the one that is given.
 pub fn frame_run(
     plan: Plan,
     values: &[i8],
@@ -106,8 +95,14 @@ pub fn frame_run(
     requires { Ready plan values.now (length scores.old) (length penalties.old) }
     ensures { FrameRun plan values.now free.now given.now result scores.new scores.old penalties.new penalties.old }
 {
-    let kernels = plan.kernels;
-    let symbols = layers_run(plan.layers as usize, kernels, values, free, given, scores);
+    let symbols = layers_run(
+        plan.layers as usize,
+        plan.kernels,
+        values,
+        free,
+        given,
+        scores,
+    );
     let n = plan::symbols(plan) / 16;
     penalty_sums::add_up(n, scores, &symbols, penalties);
     symbols

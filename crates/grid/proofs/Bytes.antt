@@ -4,10 +4,10 @@ use mathlib.Core.List.{List}
 use Prim.Native.Nat.{ℕ, zero, suc, ◌+◌, ◌-◌, ◌*◌, ◌/◌, ◌%◌, ◌^◌, ◌<◌}
 use native.Mathlib.Nat.{div-div-eq-div-mul}
 use native.Mathlib.Omega.{arith}
-use lib.ListN.{get_or, length}
+use lib.ListN.{get_or, length, set}
 use lib.Pow.{pow-add}
 use Rattle.base.specs.Bit.{bit, odd, tabulate}
-use Rattle.base.proofs.List.{length-tabulate, tabulate-at, same_bits}
+use Rattle.base.proofs.List.{length-tabulate, tabulate-at, same_bits, filled, fill-next}
 use Rattle.bits.specs.Packed.{bits, unpack, pack}
 use Rattle.bits.proofs.Packed.{bits_at, bits-mod, length-unpack, unpack-at, packed}
 use Rattle.kernel.specs.Rows.{row_bit}
@@ -59,6 +59,15 @@ byte_low rows r =
     let b : 0 ≡ 8 - 8 * ((2 * r + 1) % 2) = omega arith in
     let c : get_or rows r 0 % 256 ≡ get_or rows r 0 / 2 ^ 0 % 2 ^ 8 = omega arith in
     c ∙ ap₂ (λ q k. get_or rows q 0 / 2 ^ k % 2 ^ 8) a b
+
+-- Two more entries are stored.
+pub fill-two : (f : ℕ → ℕ) (k n : ℕ) (old new : List ℕ) (x y : ℕ) → k + 1 < length old → k + 1 + 1 ≡ n → new ≡ filled f k old → x ≡ f k → y ≡ f (k + 1)
+    → set (set new k x) (k + 1) y ≡ filled f n old
+fill-two f k n old new x y l e h ex ey =
+    ap (λ o. set (set o k x) (k + 1) y) h
+    ∙ ap (λ o. set o (k + 1) y) (fill-next f k old x (omega arith) ex)
+    ∙ fill-next f (k + 1) old y l ey
+    ∙ ap (λ m. filled f m old) e
 
 -- The bytes of a row made of two bytes are these.
 row-byte : (bytes : List ℕ) (i h r : ℕ) → 2 * r + h ≡ i → h < 2 → get_or bytes (2 * r) 0 < 256 → get_or bytes (2 * r + 1) 0 < 256

@@ -6,7 +6,9 @@ use Prim.Native.Nat.{ℕ, ◌+◌, ◌*◌, ◌/◌, ◌%◌, ◌<◌}
 use native.Mathlib.Nat.{mul_comm, mul_assoc, div-div-eq-div-mul}
 use native.Mathlib.Omega.{arith}
 use lib.Arith.{mod-mul}
-use lib.ListN.{get_or, length}
+use lib.ListN.{get_or, length, take}
+use Rattle.std.proofs.lemmas.List.{get_or-take}
+use lib.Seq.{ext_get_or}
 use Rattle.base.specs.Bit.{bit, tabulate}
 use Rattle.base.proofs.Bool.{parity-cong}
 use Rattle.base.proofs.List.{length-tabulate, tabulate-at, tabulate-cong}
@@ -16,6 +18,13 @@ use Rattle.polar.proofs.Minima.{quot, rest}
 use Rattle.kernel.specs.Rows.{row_bit, chosen_sum, row_sum}
 use Rattle.kernel.proofs.Rows.{chosen-sum-at}
 use Rattle.grid.specs.Grid.{column_sum, column_sums, rows_bit, rows_bits, staged_bits}
+
+-- A list is what its entries make.
+pub tabulated : (n : ℕ) (f : ℕ → ℕ) (l : List ℕ) → length l ≡ n → ((i : ℕ) → i < n → get_or l i 0 ≡ f i) → l ≡ tabulate n f
+tabulated n f l e h =
+    ext_get_or 0 l (tabulate n f) (e ∙ sym (length-tabulate n f)) (λ i li.
+    let ln : i < n = omega arith in
+    h i ln ∙ sym (tabulate-at n f i 0 ln))
 
 -- ---- the bits of rows
 
@@ -35,8 +44,8 @@ pub rows-bits-cong : (n : ℕ) (a b : List ℕ) → ((q : ℕ) → q < n → get
 unfolding rows_bits
 rows-bits-cong n a b h = tabulate-cong (16 * n) (λ i l. ap (λ x. bit (bits 16 x) (i % 16)) (h (i / 16) (omega arith)))
 
-pub rows-copied : (n : ℕ) (rows : List ℕ) → rows_bits n (tabulate n (λ q. get_or rows q 0)) ≡ rows_bits n rows
-rows-copied n rows = rows-bits-cong n (tabulate n (λ q. get_or rows q 0)) rows (λ q l. tabulate-at n (λ q. get_or rows q 0) q 0 l)
+pub rows-taken : (n : ℕ) (rows : List ℕ) → rows_bits n (take n rows) ≡ rows_bits n rows
+rows-taken n rows = rows-bits-cong n (take n rows) rows (λ q l. get_or-take n rows q 0 l)
 
 -- ---- a stage over rows
 

@@ -1,8 +1,8 @@
 // The run of three layers: row after row, 256 outer kernels in sixteen groups side by side, and a run of two layers over their scores.
+// A kernel is its number, below 3: public functions take it so, and it indexes tables as it stands.
 #![tactic(auto)]
 
 ghost use Rattle.std.specs.Prelude.{◌≡◌, [], ℕ, ◌+◌, ◌*◌, ◌≤◌, ◌<◌, length, get_or, set, pos, nat_abs};
-ghost use Rattle.std.proofs.Math.Seq.{paste};
 ghost use Rattle.folds.specs.Range.{first_outside};
 ghost use Rattle.kernel.specs.Kernels.{kernel_code};
 ghost use Rattle.windows.specs.Tables.{shape_table, path_rows};
@@ -18,19 +18,18 @@ fn load_groups(
     costs: &mut [[[[u16; 16]; 2]; 16]; 16],
     halves: &mut [[[[u16; 16]; 2]; 16]; 16],
 )
-    requires { (length values.now ≡ 4096) × (first_outside 127 values.now ≡ 4096) × (length costs.old ≡ 16) × (length halves.old ≡ 16) }
+    requires { (length values.now ≡ 4096) × (first_outside 127 values.now ≡ 4096) }
     ensures { Loaded values.now costs.new halves.new }
 {
-    let mut g: usize = 0;
-    while g < 16 {
+    for g in 0..16 {
         let found = lane_costs::outer_costs(values, g);
         halves[g] = lane_nodes::free_eight(&found);
         costs[g] = found;
-        g += 1;
     }
 }
 
-// One phase of all groups: it leaves their rows, and hands back the score of each kernel.
+// One phase of all groups: it leaves their rows, and hands back the score of each kernel. Its parameters are those of
+// `lane_step::step`, by group: a struct of them would be made to be taken apart.
 fn stage(
     outer: usize,
     r: usize,
@@ -50,9 +49,7 @@ fn stage(
     ensures scores { ScoresOf outer costs.now planes.now r 256 result }
 {
     let mut out = [0i32; 256];
-    let mut g: usize = 0;
-    while g < 16 {
-        let mine = planes[g];
+    for g in 0..16 {
         let found = lane_step::step(
             outer,
             r,
@@ -61,54 +58,33 @@ fn stage(
             table,
             &costs[g],
             &halves[g],
-            &mine,
+            &planes[g],
             &mut rows[g],
         );
-        pair_run::store_scores(found, 16 * g, &mut out);
-        g += 1;
+        out[16 * g..16 * g + 16].copy_from_slice(&found);
     }
     out
 }
 
-// Rows 16r to 16r + 15.
+/// Rows 16r to 16r + 15.
 pub fn rows_at(rows: &[u16; 256], r: usize) -> [u16; 16]
     requires { r < 16 }
     ensures { (i : ℕ) → i < 16 → get_or result i 0 ≡ get_or rows.now (16 * r + i) 0 }
 {
-    let mut out = [0u16; 16];
-    let mut i: usize = 0;
-    while i < 16 {
-        out[i] = rows[16 * r + i];
-        i += 1;
-    }
-    out
-}
-
-// Stores them.
-pub fn put_rows(found: [u16; 16], r: usize, out: &mut [u16; 256])
-    requires { (r < 16) × (length out.old ≡ 256) }
-    ensures { out.new ≡ paste out.old (16 * r) found 16 }
-{
-    let mut i: usize = 0;
-    while i < 16 {
-        out[16 * r + i] = found[i];
-        i += 1;
-    }
+    arrays::filled(0, |i| rows[16 * r + i])
 }
 
 // Row g of the inner word is plane r of group g.
 fn feed(word: [u16; 16], r: usize, planes: &mut [[u16; 16]; 16])
-    requires { (r < 16) × (length planes.old ≡ 16) }
-    ensures { (length planes.new ≡ 16) × ((g : ℕ) → g < 16 → get_or planes.new g [] ≡ set (get_or planes.old g []) r (get_or word g 0)) }
+    requires { r < 16 }
+    ensures { (g : ℕ) → g < 16 → get_or planes.new g [] ≡ set (get_or planes.old g []) r (get_or word g 0) }
 {
-    let mut g: usize = 0;
-    while g < 16 {
+    for g in 0..16 {
         planes[g][r] = word[g];
-        g += 1;
     }
 }
 
-// Row r of the two layers inside: a run over the scores of the outer kernels.
+// Row r of the two layers inside: a run over the scores of the outer kernels. Its parameters are those of `pair_run::pair_run`.
 fn inside(
     inner: usize,
     middle: usize,
@@ -134,8 +110,8 @@ fn inside(
     )
 }
 
-// At each row the outer kernels' scores are the values of a run of the two layers inside them, and the word of its symbols goes
-// back to them. A symbol is the sign of its score where it is free, else the one that is given.
+/// At each row the outer kernels' scores are the values of a run of the two layers inside them, and the word of its symbols goes
+/// back to them. A symbol is the sign of its score where it is free, else the one that is given.
 pub fn triple_run(
     kernels: [u8; 3],
     values: &[i8],
@@ -160,19 +136,14 @@ pub fn triple_run(
     let mut symbols = [0u16; 256];
     let mut planes = [[0u16; 16]; 16];
     let mut rows = [[[[0u16; 16]; 2]; 16]; 16];
-    let mut r: usize = 0;
-    while r < 16 {
-        let shape = shapes[r];
+    for r in 0..16 {
         let found = stage(
-            outer, r, shape, &flags, &tables[r], &costs, &halves, &planes, &mut rows,
+            outer, r, shapes[r], &flags, &tables[r], &costs, &halves, &planes, &mut rows,
         );
         let row = inside(inner, middle, &found, free, given, r, scores);
-        let taken = row.symbols;
-        put_rows(taken, r, &mut symbols);
-        let own = row.planes;
-        let word = grid::column_sums(matrix, own);
+        symbols[16 * r..16 * r + 16].copy_from_slice(&row.symbols);
+        let word = grid::column_sums(matrix, row.planes);
         feed(word, r, &mut planes);
-        r += 1;
     }
     symbols
 }

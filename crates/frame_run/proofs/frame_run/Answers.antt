@@ -25,9 +25,6 @@ layers_run-symbols-requires c =
       values_len = (z.requires.count, z.requires.inside, z.requires.score-room);
     }
 
-pub symbols-n-requires : goal.symbols-n-requires
-symbols-n-requires c = c.requires.layered
-
 pub add_up-requires : goal.add_up-requires
 add_up-requires c =
     let z = c in

@@ -1,8 +1,11 @@
 -- `frame_run::single_run` meets its contract. Assumes nothing.
-use mathlib.Core.Path.{◌≡◌, sym, ◌∙◌}
+use mathlib.Core.Path.{◌≡◌, sym, ap, ◌∙◌}
 use Prim.Native.Nat.{◌*◌, ◌<◌}
 use native.Mathlib.Omega.{arith}
-use lib.ListN.{length}
+use lib.IntN.{ℤ}
+use lib.ListN.{length, drop}
+use lib.Seq.{take_all}
+use mathlib.Core.List.{List, ◌++◌}
 use Rattle.folds.specs.Range.{value_limit}
 use Rattle.folds.proofs.Range.{outside-all, outside-none, outside_wider}
 use Rattle.folds.proofs.Limit.{frame-inside}
@@ -26,4 +29,5 @@ pub returns : goal.returns
 returns c =
     let a = c.args in
     let row = c.hadamard_run-row in
-    single-scored a.kernels a.values.now c.kernel_values-wide.result c.kernel_values-wide.ensures a.free.now a.given.now _ _ a.scores.now row.result.scores row.ensures c.store_scores.ensures
+    single-scored a.kernels a.values.now c.kernel_values-wide.result c.kernel_values-wide.ensures a.free.now a.given.now _ _ a.scores.now row.result.scores row.ensures
+    (ap (λ (l : List ℤ). l ++ drop 16 a.scores.now) (c.copy_from_slice.ensures.after ∙ sym (take_all 16 row.result.scores (search rules))))

@@ -16,7 +16,7 @@ use Rattle.grid.proofs.column_sum.Goals as goal
 use Rattle.grid.proofs.column_sum.Goals.{else-choosing-r-eq1, then-choosing-r-eq1}
 
 pub loop-r-init : goal.loop-r-init
-loop-r-init c = (search rules, search rules, summed-none c.args.rows (λ s. row_bit c.args.choosing s c.args.j))
+loop-r-init c = (search rules, summed-none c.args.rows (λ s. row_bit c.args.choosing s c.args.j))
 
 pub loop-r-preserved : goal.loop-r-preserved
 loop-r-preserved c =
@@ -26,14 +26,12 @@ loop-r-preserved c =
     let f : ℕ → Bool = λ s. row_bit a.choosing s a.j in
     (elim c.if-choosing-r-eq1.branch [
       | then-choosing-r-eq1 w ↦ let row : Fits w16 (get_or a.rows l.r 0) = search rules in (
-        search rules,
-        rw w.c-is (xor_lt 16 l.c (get_or a.rows l.r 0) l.invariant.1 row.fits),
-        summed-row a.rows f l.c c.if-choosing-r-eq1.c l.r (b ∙ eq-eqb _ _ w.if-choosing-r-eq1.true) w.c-is l.invariant.2,
+        rw w.c-is (xor_lt 16 l.c (get_or a.rows l.r 0) l.invariant.0 row.fits),
+        summed-row a.rows f l.c c.if-choosing-r-eq1.c l.r (b ∙ eq-eqb _ _ w.if-choosing-r-eq1.true) w.c-is l.invariant.1,
       )
       | else-choosing-r-eq1 w ↦ (
-        search rules,
-        rw w.c-is l.invariant.1,
-        summed-skip a.rows f l.c c.if-choosing-r-eq1.c l.r (b ∙ ne_eqb _ _ w.if-choosing-r-eq1.false) w.c-is l.invariant.2,
+        rw w.c-is l.invariant.0,
+        summed-skip a.rows f l.c c.if-choosing-r-eq1.c l.r (b ∙ ne_eqb _ _ w.if-choosing-r-eq1.false) w.c-is l.invariant.1,
       )
     ])
 
@@ -41,4 +39,4 @@ pub returns : goal.returns
 returns c =
     let a = c.args in
     let l = c.loop-r in
-    summed-all a.rows (λ s. row_bit a.choosing s a.j) l.c l.r (search rules) l.invariant.1 l.invariant.2
+    summed-all a.rows (λ s. row_bit a.choosing s a.j) l.c l.r (search rules) l.invariant.0 l.invariant.1

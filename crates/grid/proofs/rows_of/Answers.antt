@@ -11,16 +11,13 @@ use Rattle.grid.proofs.rows_of.Goals as goal
 
 pub loop-r-init : goal.loop-r-init
 unfolding tabulate
-loop-r-init c = (search rules, refl, refl)
+loop-r-init c = refl
 
 pub loop-r-preserved : goal.loop-r-preserved
 loop-r-preserved c =
     let a = c.args in
-    let l = c.loop-r in (
-      search rules,
-      search rules,
-      ap (λ o. set o l.r c.row_of.result) l.invariant.2 ∙ fill-next (byte_row a.bytes.now) l.r a.out.now _ (search rules) c.row_of.ensures,
-    )
+    let l = c.loop-r in
+    ap (λ o. set o l.r c.from_be_bytes.result) l.invariant ∙ fill-next (byte_row a.bytes.now) l.r a.out.now _ (search rules) (search rules)
 
 pub returns : goal.returns
 returns c =
@@ -28,7 +25,7 @@ returns c =
     let l = c.loop-r in
     let n : ℕ = length a.out.now in
     let e : l.r ≡ n = search rules in (
-      l.invariant.1,
-      ap (rows_bits n) (l.invariant.2 ∙ ap (λ k. filled (byte_row a.bytes.now) k a.out.now) e ∙ fill-all (byte_row a.bytes.now) n a.out.now refl)
-          ∙ rows_made n a.bytes.now c.requires.0 (λ i _. (c.shared_slice_known-1.given i).fits),
+      search rules,
+      ap (rows_bits n) (l.invariant ∙ ap (λ k. filled (byte_row a.bytes.now) k a.out.now) e ∙ fill-all (byte_row a.bytes.now) n a.out.now refl)
+          ∙ rows_made n a.bytes.now c.requires.0 (λ i _. (c.type_inv.bytes i).fits),
     )

@@ -1,6 +1,6 @@
 -- `pair_run::pair_run` meets its contract: after r rows their symbols are those by their sources, and their scores are written. Assumes nothing.
 use mathlib.Core.Path.{◌≡◌, refl, sym, ap, ◌∙◌}
-use mathlib.Core.List.{List, []}
+use mathlib.Core.List.{List}
 use Prim.Native.Nat.{ℕ, ◌+◌, ◌*◌, ◌<◌}
 use native.Mathlib.Omega.{arith}
 use lib.ListN.{length, get_or}
@@ -13,28 +13,20 @@ use Rattle.pair_run.specs.Run.{front}
 use Rattle.pair_run.proofs.Prefixes.{front_at}
 use Rattle.pair_run.proofs.Rows.{no_row, row_next, all-rows}
 use Rattle.pair_run.proofs.Premises.{word_of, lanes-wider, outer-inside, lanes-inside}
+use Rattle.std.proofs.lemmas.Slice.{put_mid-paste}
 use borrow.Author.Rules.{rules}
 use Rattle.pair_run.proofs.pair_run.Goals as goal
-
-pub free_eight-halves-requires : goal.free_eight-halves-requires
-free_eight-halves-requires c = let z = c in lanes-wider 2032 _ z.args.costs.now (omega arith) z.requires.2
 
 pub loop-r-init : goal.loop-r-init
 loop-r-init c =
     let a = c.args in
-    (no_row a.inner a.outer a.costs.now _ _ a.at a.scores.now _ _ _ refl refl refl, refl)
+    no_row a.inner a.outer a.costs.now _ _ a.at a.scores.now _ _ _ refl refl refl
 
-pub step-found-requires : goal.step-found-requires
-step-found-requires c =
+pub step-found-requires-clause-lanes_within : goal.step-found-requires-clause-lanes_within
+step-found-requires-clause-lanes_within c =
     let z = c in
-    let q = c in
-    let l = q.loop-r in
-    let h = q.free_eight-halves in record {
-      kernel_bound = (z.requires.1, c.loop-r-test.true, q.flags-flags.ensures);
-      shape_value = (ap (λ t. get_or t l.r []) q.shapes_of-shapes.ensures, ap (λ t. get_or t l.r []) q.tables_of-tables.ensures);
-      lanes_within = (lanes-wider 2032 _ z.args.costs.now (omega arith) z.requires.2, lanes-wider 4064 _ h.result (omega arith) (h.ensures.within 2032 z.requires.2), h.ensures.nodes);
-      rows_len = (l.invariant.0.row_room, λ z _. l.invariant.0.kept-so z);
-    }
+    let h = c.free_eight-halves in
+    (lanes-wider 2032 _ z.args.costs.now (omega arith) z.requires.2, lanes-wider 4064 _ h.result (omega arith) (h.ensures.within 2032 z.requires.2), h.ensures.nodes)
 
 pub hadamard_run-row-requires : goal.hadamard_run-row-requires
 hadamard_run-row-requires c =
@@ -43,26 +35,6 @@ hadamard_run-row-requires c =
     let f = c.step-found in
     let long : length f.result ≡ 16 = search rules in
     (z.requires.0, long, outside_wider (16 * 2032) value_limit lanes-inside f.result (outer-inside z.args.outer 2032 z.args.costs.now z.requires.2 q.loop-r.planes q.loop-r.r f.result f.ensures.scores long) ∙ long)
-
-pub overflow_add-at : goal.overflow_add-at
-overflow_add-at c = let z = c in omega (arith, z.requires.3, c.loop-r-test.true, z.ranges)
-
-pub store_scores-requires : goal.store_scores-requires
-store_scores-requires c =
-    let z = c in
-    omega (arith, z.requires.3, c.loop-r-test.true, c.loop-r.invariant.1)
-
-pub offset_bounds-planes-r : goal.offset_bounds-planes-r
-offset_bounds-planes-r c = omega (arith, c.loop-r-test.true)
-
-pub bounds-planes-r : goal.bounds-planes-r
-bounds-planes-r c = omega (arith, c.loop-r-test.true)
-
-pub overflow_add-r : goal.overflow_add-r
-overflow_add-r c = omega (arith, c.loop-r-test.true)
-
-pub loop-r-smaller : goal.loop-r-smaller
-loop-r-smaller c = omega (arith, c.loop-r-test.true)
 
 pub loop-r-preserved : goal.loop-r-preserved
 loop-r-preserved c =
@@ -74,23 +46,19 @@ loop-r-preserved c =
     let h = c.step-found in
     let row = c.hadamard_run-row in
     let at : (t : List ℕ) (s : ℕ) → s < 16 → bit (bits 16 (get_or t l.r 0)) s ≡ bit (front 16 t) (l.r * 16 + s) = λ t s ls.
-    sym (ap (bit (front 16 t)) (let e : l.r * 16 + s ≡ 16 * l.r + s = omega arith in e) ∙ front_at 16 t l.r s lr ls) in (
-      row_next a.inner a.outer a.costs.now _ _ a.at a.scores.now z.requires.3
-          l.r l.symbols l.planes l.rows l.scores l.invariant.0 lr
-          h.result h.ensures.scores
-          (get_or a.free l.r 0) (get_or a.given l.r 0) row.result.symbols row.result.scores (at a.free) (at a.given) row.ensures
-          c.row_sum.result
-          (λ j lj. ap (λ v. bit (bits 16 v) j) (c.row_sum.ensures ∙ ap (λ t. row_sum t row.result.symbols) q.kernel_rows-matrix.ensures) ∙ word_of a.inner row.result.symbols j z.requires.0 lj)
-          h.new.rows h.ensures.room h.ensures.held _ c.store_scores.ensures,
-      search (rules, l.invariant),
-    )
-
-pub shape_of-scores : goal.shape_of-scores
-shape_of-scores c = c.loop-r.invariant.1
+    sym (ap (bit (front 16 t)) (let e : l.r * 16 + s ≡ 16 * l.r + s = omega arith in e) ∙ front_at 16 t l.r s lr ls) in
+    row_next a.inner a.outer a.costs.now _ _ a.at a.scores.now z.requires.3
+    l.r l.symbols l.planes l.rows l.scores l.invariant lr
+    h.result h.ensures.scores
+    (get_or a.free l.r 0) (get_or a.given l.r 0) row.result.symbols row.result.scores (at a.free) (at a.given) row.ensures
+    c.row_sum.result
+    (λ j lj. ap (λ v. bit (bits 16 v) j) (c.row_sum.ensures ∙ ap (λ t. row_sum t row.result.symbols) q.kernel_rows-matrix.ensures) ∙ word_of a.inner row.result.symbols j z.requires.0 lj)
+    h.new.rows h.ensures.room h.ensures.held
+    _ c.store_scores.ensures
 
 pub returns : goal.returns
 returns c =
     let q = c in
     let a = q.args in
     let l = q.loop-r in
-    all-rows a.inner a.outer a.costs.now a.free a.given a.at a.scores.now l.r l.symbols l.planes l.rows _ (search rules) l.invariant.0
+    all-rows a.inner a.outer a.costs.now a.free a.given a.at a.scores.now l.r l.symbols l.planes l.rows _ (search rules) l.invariant

@@ -1,6 +1,6 @@
 use mathlib.Core.Path.{◌≡◌}
-use Prim.Native.Nat.{◌+◌, ◌-◌, ◌≤◌}
-use lib.ListN.{length, get_or}
+use Prim.Native.Nat.{◌+◌}
+use lib.ListN.{get_or}
 use lib.Seq.{paste}
 use Rattle.polar.specs.Code.{sum}
 use Rattle.penalty_sums.proofs.Sums.{row_sums}
@@ -8,7 +8,4 @@ use Rattle.penalty_sums.proofs.add_row.Given as goal
 
 abbrev pub invariant-loop-i : goal.invariant-loop-i
 invariant-loop-i l =
-    (l.i ≤ 16) × (length l.out ≡ length l.initial.out) × (l.penalty ≡ l.start + sum l.i (λ j. get_or l.paid j 0)) × (l.out ≡ paste l.initial.out l.at (row_sums l.paid l.start) l.i)
-
-abbrev pub decreases-loop-i : goal.decreases-loop-i
-decreases-loop-i l = 16 - l.i
+    (l.penalty ≡ l.start + sum l.i (λ j. get_or l.paid j 0)) × (l.out ≡ paste l.initial.out l.at (row_sums l.paid l.start) l.i)

@@ -7,26 +7,19 @@ use Rattle.triple_run.proofs.Loading.{loaded-next}
 use borrow.Author.Rules.{rules}
 use Rattle.triple_run.proofs.load_groups.Goals as goal
 
-pub loop-g-init : goal.loop-g-init
-loop-g-init c = (search rules, c.requires.2, c.requires.3, λ i l. absurd (omega arith))
-
-pub free_eight-requires : goal.free_eight-requires
-free_eight-requires c = lanes-wider 127 _ c.outer_costs-found.result (omega arith) c.outer_costs-found.ensures.1
-
 pub loop-g-preserved : goal.loop-g-preserved
 loop-g-preserved c =
     let k = c.loop-g in
     let o = c.outer_costs-found in
     let h = c.free_eight in
     let lg = c.loop-g-test.true in (
-      search rules,
-      length-set k.costs k.g _ ∙ k.invariant.1,
-      length-set k.halves k.g _ ∙ k.invariant.2,
-      loaded-next c.args.values.now k.g k.costs k.halves o.result h.result (omega (arith, k.invariant.1, lg)) (omega (arith, k.invariant.2, lg)) k.invariant.3
+      length-set k.costs k.g _ ∙ k.invariant.0,
+      length-set k.halves k.g _ ∙ k.invariant.1,
+      loaded-next c.args.values.now k.g k.costs k.halves o.result h.result (omega (arith, k.invariant.0, lg)) (omega (arith, k.invariant.1, lg)) k.invariant.2
           (record { agree = o.ensures.0; small = o.ensures.1; folds-small = lanes-wider 254 4095 h.result (omega arith) (h.ensures.within 127 o.ensures.1); folds = h.ensures.nodes }),
     )
 
 pub returns : goal.returns
 returns c =
     let k = c.loop-g in
-    ((λ g l. (k.invariant.3 g (search rules)).agree), λ g l. let h = k.invariant.3 g (search rules) in (h.small, h.folds-small, h.folds))
+    ((λ g l. (k.invariant.2 g (search rules)).agree), λ g l. let h = k.invariant.2 g (search rules) in (h.small, h.folds-small, h.folds))
