@@ -12,13 +12,12 @@ fn candidate(scratch: &[u8], at: usize, c: usize, penalty: u16) -> Path
     requires { (at < 256) × (c < 16) × (4096 ≤ length scratch.now) }
     ensures { Candidate at c penalty scratch.now result }
 {
-    let total = penalty as u32;
-    let p = path::load(scratch, c / 2);
-    let q = p.extend(at, c % 2 == 1);
-    q.penalty(total)
+    let parent = path::load(scratch, c / 2);
+    let longer = parent.extend(at, c % 2 == 1);
+    longer.penalty(u32::from(penalty))
 }
 
-// The next list: entry j is candidate order[j].
+// The next list: entry j is candidate order[j]. The order and the penalties stand apart: the penalties are ranked as one vector.
 fn new_list(
     scratch: &[u8],
     keep: usize,
@@ -33,12 +32,9 @@ fn new_list(
         symbols: [0u8; 32],
         penalty: 0,
     }; 8];
-    let mut j: usize = 0;
-    while j < keep {
+    for j in 0..keep {
         let c = order[j];
-        let path = candidate(scratch, at, c, pens[c]);
-        list[j] = path;
-        j += 1;
+        list[j] = candidate(scratch, at, c, pens[c]);
     }
     list
 }
@@ -48,16 +44,13 @@ fn store_list(scratch: &mut [u8], keep: usize, list: [Path; 8])
     requires { (keep ≤ 8) × (4096 ≤ length scratch.old) }
     ensures { (length scratch.new ≡ length scratch.old) × (drop 4096 scratch.new ≡ drop 4096 scratch.old) × ((j : ℕ) → j < keep → path_at j scratch.new ≡ get_or list j no_path) }
 {
-    let mut j: usize = 0;
-    while j < keep {
-        let path = list[j];
-        path::store(scratch, j, path);
-        j += 1;
+    for j in 0..keep {
+        path::store(scratch, j, list[j]);
     }
 }
 
-// The next list: entry j is the parent of candidate order[j], with that candidate's symbol and penalty. It is made whole
-// before any record is overwritten.
+/// The next list: entry j is the parent of candidate order[j], with that candidate's symbol and penalty. It is made whole
+/// before any record is overwritten.
 pub fn next_list(scratch: &mut [u8], keep: usize, at: usize, order: &[usize; 16], pens: &[u16; 16])
     requires { (keep ≤ 8) × (at < 256) × (4096 ≤ length scratch.old) × ((j : ℕ) → j < keep → get_or order.now j 0 < 16) }
     ensures { (length scratch.new ≡ length scratch.old) × (drop 4096 scratch.new ≡ drop 4096 scratch.old) × ((j : ℕ) → j < keep → Candidate at (get_or order.now j 0) (get_or pens.now (get_or order.now j 0) 0) scratch.old (path_at j scratch.new)) }
@@ -70,19 +63,18 @@ pub fn next_list(scratch: &mut [u8], keep: usize, at: usize, order: &[usize; 16]
 fn frozen(p: Path, penalty: u16) -> Path
     ensures { Frozen penalty p result }
 {
-    p.freeze(penalty as u32)
+    p.freeze(u32::from(penalty))
 }
 
-// The list after unmarked phases: each path's penalty is the one given.
+/// The list after unmarked phases: each path's penalty is the one given.
 pub fn freeze_list(scratch: &mut [u8], n: usize, pens: &[u16; 16])
     requires { (n ≤ 8) × (4096 ≤ length scratch.old) }
     ensures { (length scratch.new ≡ length scratch.old) × (drop 4096 scratch.new ≡ drop 4096 scratch.old) × ((i : ℕ) → i < n → Frozen (get_or pens.now i 0) (path_at i scratch.old) (path_at i scratch.new)) }
 {
-    let mut i: usize = 0;
-    while i < n {
-        let p = path::load(scratch, i);
-        let q = frozen(p, pens[i]);
-        path::store(scratch, i, q);
-        i += 1;
+    // A count: the records lie in one buffer.
+    for i in 0..n {
+        let before = path::load(scratch, i);
+        let after = frozen(before, pens[i]);
+        path::store(scratch, i, after);
     }
 }

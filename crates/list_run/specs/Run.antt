@@ -18,6 +18,22 @@ use Rattle.list.specs.Ahead.{All}
 use Rattle.list.specs.Paths.{phase, paths}
 use Rattle.list_step.specs.Step.{Listed, Paid, row_symbols, KeptRow, Lanes, PhaseStep, TwoSteps}
 use Rattle.list_step.specs.Marked.{Clean}
+use Rattle.list_run.specs.declared.Turn.{Turn}
+use Rattle.list_run.specs.declared.Turn.TheVariants.{Skip, Freeze, Split, SplitTwice}
+
+-- Whether a phase is marked, by what is done there,
+abbrev pub marked_of : Turn → Bool
+marked_of Skip = false
+marked_of Freeze = false
+marked_of Split = true
+marked_of SplitTwice = true
+
+-- and whether the next one is taken with it.
+abbrev pub pair_of : Turn → Bool
+pair_of Skip = false
+pair_of Freeze = false
+pair_of Split = false
+pair_of SplitTwice = true
 
 -- The paths ps after the first s phases of a row.
 unfoldable pub advance : (List Bool → ℕ) → ℕ → (ℕ → Bool) → ℕ → List (List Bool) → List (List Bool)

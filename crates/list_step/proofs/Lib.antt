@@ -1,4 +1,3 @@
-pub mod Tests
 pub mod Candidates
 pub mod Rows
 pub mod Stepping

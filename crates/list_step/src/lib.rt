@@ -1,4 +1,5 @@
 // One phase of a row for all paths of the list: the least totals of the inner kernel on each path, and the paths that stay.
+// A kernel is its number, below 3: public functions take it so, and it indexes tables as it stands.
 #![tactic(auto)]
 
 ghost use Rattle.std.specs.Prelude.{◌≡◌, Bool, true, false, [], ◌∷◌, ◌++◌, ℕ, ◌+◌, ◌*◌, ◌/◌, ◌%◌, ◌≤◌, ◌<◌, min, length, get_or, drop};
@@ -8,10 +9,8 @@ ghost use Rattle.folds.specs.Rows.{cell};
 ghost use Rattle.kernel.specs.Kernels.{kernel_code};
 ghost use Rattle.windows.specs.Tables.{shape_table, path_table, shape_at};
 ghost use Rattle.windows.specs.Paths.{Held};
-ghost use Rattle.lane.specs.Lanes.{lane_costs, LanesWithin};
+ghost use Rattle.lane.specs.Lanes.{lane_costs};
 ghost use Rattle.lane_phases.specs.Rows.{score_rows};
-ghost use Rattle.lane_step.specs.Step.{Halves};
-ghost use Rattle.lane_moves.specs.Moves.{Twins};
 ghost use Rattle.list_step.specs.Step.{row_symbols, KeptRow, PlacesPay, Lanes, PhaseStep, TwoSteps};
 ghost use Rattle.list_step.specs.Marked.{Clean, Penalties, Marked};
 ghost use Rattle.list_step.specs.Two.{lane_of, Settled, SettledTwo};
@@ -22,47 +21,92 @@ fn row_words(scratch: &[u8], n: usize, r: usize) -> [u16; 16]
     ensures { (i : ℕ) → i < n → bits 16 (get_or result i 0) ≡ row_symbols scratch.now r 16 i }
 {
     let mut words = [0u16; 16];
-    let mut i: usize = 0;
-    while i < n {
+    for i in 0..n {
         words[i] = path::row_word(scratch, i, r);
-        i += 1;
     }
     words
 }
 
-// The least totals of phase s of row r on each of n paths, with symbol 0 and with symbol 1. Where the phase before was stepped
-// its rows are there; else they are made from the last phase on that needs none.
-fn phase_totals(
-    inner: usize,
-    r: usize,
-    s: usize,
-    stepped: bool,
-    n: usize,
-    shapes: &[[u8; 2]; 16],
-    tables: &[[u16; 16]; 16],
-    scratch: &[u8],
-    costs: &[[[u16; 16]; 2]; 16],
-    halves: &[[[u16; 16]; 2]; 16],
-    rows: &mut [[[u16; 16]; 2]; 16],
-) -> [[u16; 16]; 2]
-    requires inner_bound { (inner < 3) × (r < 16) × (s < 16) × (n ≤ 8) × (4096 ≤ length scratch.now) }
-    requires shapes_value { (shapes.now ≡ get_or shape_table inner []) × (tables.now ≡ get_or path_table inner []) }
-    requires lanes { Lanes costs.now halves.now rows.old }
-    requires s_nonzero { stepped ≡ true → (0 < s) × ((i : ℕ) → i < n → KeptRow inner costs.now rows.old scratch.now r s i) }
-    ensures room { length rows.new ≡ 16 }
-    ensures held { (i : ℕ) → i < n → Held inner (lane_costs costs.now i) (row_symbols scratch.now r s i) (score_rows rows.new i) }
-    ensures totals { (i : ℕ) (b : Bool) → i < n → cell 0 result i b ≡ least (kernel_code inner) (lane_costs costs.now i) (row_symbols scratch.now r s i ++ (b ∷ [])) }
-{
-    let words = row_words(scratch, n, r);
-    let planes = lane_moves::planes_of(&words);
-    let first = if stepped {
-        s
-    } else {
-        lane_totals::opening(inner, shapes, s)
-    };
-    lane_totals::totals_from(
-        inner, first, s, shapes, tables, costs, halves, &planes, rows,
-    )
+// A phase of a row: the inner kernel, the row, the phase's number, and the kernel's tables.
+#[derive(Clone, Copy)]
+struct RowPhase<'a> {
+    kernel: usize,
+    row: usize,
+    number: usize,
+    shapes: &'a [[u8; 2]; 16],
+    tables: &'a [[u16; 16]; 16],
+    ghost within: { (kernel < 3) × (row < 16) × (number < 16) },
+    ghost tables_of: { (shapes.now ≡ get_or shape_table kernel []) × (tables.now ≡ get_or path_table kernel []) },
+}
+
+impl<'a> RowPhase<'a> {
+    // The least totals of the phase on each of n paths, with symbol 0 and with symbol 1. Where the phase before was stepped its rows
+    // are there; else they are made from the last phase on that needs none. What it takes but the phase is what
+    // `lane_totals::totals_from` takes.
+    fn totals(
+        &self,
+        stepped: bool,
+        n: usize,
+        scratch: &[u8],
+        costs: &[[[u16; 16]; 2]; 16],
+        halves: &[[[u16; 16]; 2]; 16],
+        rows: &mut [[[u16; 16]; 2]; 16],
+    ) -> [[u16; 16]; 2]
+        requires n_bound { (n ≤ 8) × (4096 ≤ length scratch.now) }
+        requires lanes { Lanes costs.now halves.now rows.old }
+        requires s_nonzero { stepped ≡ true → (0 < self.now.number) × ((i : ℕ) → i < n → KeptRow self.now.kernel costs.now rows.old scratch.now self.now.row self.now.number i) }
+        ensures held { (i : ℕ) → i < n → Held self.now.kernel (lane_costs costs.now i) (row_symbols scratch.now self.now.row self.now.number i) (score_rows rows.new i) }
+        ensures totals { (i : ℕ) (b : Bool) → i < n → cell 0 result i b ≡ least (kernel_code self.now.kernel) (lane_costs costs.now i) (row_symbols scratch.now self.now.row self.now.number i ++ (b ∷ [])) }
+    {
+        let words = row_words(scratch, n, self.row);
+        let planes = lane_moves::planes_of(&words);
+        let first = if stepped {
+            self.number
+        } else {
+            lane_totals::opening(self.kernel, self.shapes, self.number)
+        };
+        lane_totals::totals_from(
+            self.kernel,
+            first,
+            self.number,
+            self.shapes,
+            self.tables,
+            costs,
+            halves,
+            &planes,
+            rows,
+        )
+    }
+
+    // The least totals of the next phase: in lane i of path i with symbol 0 at this one, in lane 8 + i of the same path with symbol 1.
+    // The next phase makes its own rows.
+    fn next_totals(
+        &self,
+        n: usize,
+        scratch: &[u8],
+        costs: &[[[u16; 16]; 2]; 16],
+        halves: &[[[u16; 16]; 2]; 16],
+        rows: &mut [[[u16; 16]; 2]; 16],
+    ) -> [[u16; 16]; 2]
+        requires next_bound { (self.now.number < 15) × (shape_at self.now.kernel (self.now.number + 1) 1 ≡ 0) × (n ≤ 8) × (4096 ≤ length scratch.now) }
+        requires lanes { Lanes costs.now halves.now rows.old }
+        ensures held { (i : ℕ) (b : Bool) → i < n → Held self.now.kernel (lane_costs costs.now (lane_of i b)) (row_symbols scratch.now self.now.row self.now.number i ++ (b ∷ [])) (score_rows rows.new (lane_of i b)) }
+        ensures totals { (i : ℕ) (b c : Bool) → i < n → cell 0 result (lane_of i b) c ≡ least (kernel_code self.now.kernel) (lane_costs costs.now (lane_of i b)) ((row_symbols scratch.now self.now.row self.now.number i ++ (b ∷ [])) ++ (c ∷ [])) }
+    {
+        let words = row_words(scratch, n, self.row);
+        let single = lane_moves::planes_of(&words);
+        let planes = lane_moves::twin_planes(&single, self.number);
+        lane_totals::totals(
+            self.kernel,
+            self.number + 1,
+            self.shapes,
+            self.tables,
+            costs,
+            halves,
+            &planes,
+            rows,
+        )
+    }
 }
 
 // The penalties of the candidates, path after path, with symbol 0 and with symbol 1. Of those that there are not it is no less than
@@ -72,11 +116,9 @@ fn candidate_penalties(pair: &[[u16; 16]; 2], n: usize) -> [u16; 16]
     ensures { Penalties pair.now n result }
 {
     let mut out = [32766u16; 16];
-    let mut i: usize = 0;
-    while i < n {
+    for i in 0..n {
         out[2 * i] = pair[0][i];
         out[2 * i + 1] = pair[1][i];
-        i += 1;
     }
     out
 }
@@ -85,25 +127,18 @@ fn candidate_penalties(pair: &[[u16; 16]; 2], n: usize) -> [u16; 16]
 fn parents(order: &[usize; 16]) -> [usize; 16]
     ensures { (j : ℕ) → j < 8 → get_or result j 0 ≡ get_or order.now j 0 / 2 }
 {
-    let mut out = [0usize; 16];
-    let mut j: usize = 0;
-    while j < 8 {
-        out[j] = order[j] / 2;
-        j += 1;
-    }
-    out
+    arrays::filled(0, |j| order[j] / 2)
 }
 
-// Whether one of n paths goes on from another position.
+// Whether one of n paths goes on from another position. It looks at all of them: mostly none has moved. A count beside the array
+// here and below, as `lane_moves::rearrange` takes both.
 fn is_moved(from: &[usize; 16], n: usize) -> bool
     requires { n ≤ 8 }
     ensures { result ≡ false → (j : ℕ) → j < n → get_or from.now j 0 ≡ j }
 {
     let mut moved = false;
-    let mut j: usize = 0;
-    while j < n {
-        moved = moved | (from[j] != j);
-        j += 1;
+    for j in 0..n {
+        moved |= from[j] != j;
     }
     moved
 }
@@ -111,22 +146,15 @@ fn is_moved(from: &[usize; 16], n: usize) -> bool
 // Each path's home is that of the path it goes on from.
 fn moved_home(home: [usize; 8], from: &[usize; 16]) -> [usize; 8]
     requires { (j : ℕ) → j < 8 → get_or from.now j 0 < 8 }
-    ensures { (length result ≡ 8) × ((j : ℕ) → j < 8 → get_or result j 0 ≡ get_or home (get_or from.now j 0) 0) }
+    ensures { (j : ℕ) → j < 8 → get_or result j 0 ≡ get_or home (get_or from.now j 0) 0 }
 {
-    let mut out = [0usize; 8];
-    let mut j: usize = 0;
-    while j < 8 {
-        out[j] = home[from[j]];
-        j += 1;
-    }
-    out
+    arrays::filled(0, |j| home[from[j]])
 }
 
 // The rows of so many paths in a window: each of n lanes takes over those of the lane it goes on from.
 fn move_rows(from: &[usize; 16], n: usize, paths: usize, rows: &mut [[[u16; 16]; 2]; 16])
-    requires { (n ≤ 8) × (paths ≤ 16) × ((j : ℕ) → j < 8 → get_or from.now j 0 < 16) × (length rows.old ≡ 16) }
-    ensures room { length rows.new ≡ 16 }
-    ensures rows { (j t : ℕ) (c : Bool) → j < n → t < paths → lane_costs rows.new j t c ≡ lane_costs rows.old (get_or from.now j 0) t c }
+    requires { (n ≤ 8) × (paths ≤ 16) × ((j : ℕ) → j < 8 → get_or from.now j 0 < 16) }
+    ensures { (j t : ℕ) (c : Bool) → j < n → t < paths → lane_costs rows.new j t c ≡ lane_costs rows.old (get_or from.now j 0) t c }
 {
     if !is_moved(from, n) {
         return;
@@ -142,8 +170,8 @@ fn move_costs(
     halves: &mut [[[u16; 16]; 2]; 16],
     home: &mut [usize; 8],
 )
-    requires { (n ≤ 8) × ((j : ℕ) → j < 8 → get_or from.now j 0 < 8) × PlacesPay costs.old halves.old × (length home.old ≡ 8) }
-    ensures lanes { PlacesPay costs.new halves.new × (length home.new ≡ 8) }
+    requires { (n ≤ 8) × ((j : ℕ) → j < 8 → get_or from.now j 0 < 8) × PlacesPay costs.old halves.old }
+    ensures lanes { PlacesPay costs.new halves.new }
     ensures costs { (j t : ℕ) (c : Bool) → j < n → t < 16 → lane_costs costs.new j t c ≡ lane_costs costs.old (get_or from.now j 0) t c }
     ensures home { (j : ℕ) → j < n → get_or home.new j 0 ≡ get_or home.old (get_or from.now j 0) 0 }
 {
@@ -157,6 +185,7 @@ fn move_costs(
 }
 
 // The lanes after a phase of so many paths in its window: each of n paths takes over the lane of the path it goes on from.
+// They are lent one by one, as in `marked_phase`.
 fn follow_parents(
     from: &[usize; 16],
     n: usize,
@@ -166,8 +195,8 @@ fn follow_parents(
     rows: &mut [[[u16; 16]; 2]; 16],
     home: &mut [usize; 8],
 )
-    requires { (n ≤ 8) × (paths ≤ 16) × ((j : ℕ) → j < 8 → get_or from.now j 0 < 8) × Lanes costs.old halves.old rows.old × (length home.old ≡ 8) }
-    ensures lanes { Lanes costs.new halves.new rows.new × (length home.new ≡ 8) }
+    requires { (n ≤ 8) × (paths ≤ 16) × ((j : ℕ) → j < 8 → get_or from.now j 0 < 8) × Lanes costs.old halves.old rows.old }
+    ensures lanes { Lanes costs.new halves.new rows.new }
     ensures costs { (j t : ℕ) (c : Bool) → j < n → t < 16 → lane_costs costs.new j t c ≡ lane_costs costs.old (get_or from.now j 0) t c }
     ensures rows { (j t : ℕ) (c : Bool) → j < n → t < paths → lane_costs rows.new j t c ≡ lane_costs rows.old (get_or from.now j 0) t c }
     ensures home { (j : ℕ) → j < n → get_or home.new j 0 ≡ get_or home.old (get_or from.now j 0) 0 }
@@ -196,6 +225,7 @@ fn settle(
 }
 
 // A marked phase, from the least totals on its paths: every path splits in two, and those that stay take over lanes and homes.
+// Lent one by one: with a struct made from parameters, what they hold at its end could not be proved.
 fn marked_phase(
     at: usize,
     list: usize,
@@ -210,8 +240,8 @@ fn marked_phase(
 ) -> usize
     requires at_bound { (at < 256) × (1 ≤ list) × (list ≤ 8) × (1 ≤ n) × (n ≤ 8) × (paths ≤ 16) × (4096 ≤ length scratch.old) }
     requires by_index { (i : ℕ) (b : Bool) → i < n → cell 0 pair.now i b ≤ 32766 }
-    requires lanes_2 { Lanes costs.old halves.old rows.old × (length home.old ≡ 8) }
-    ensures lanes { Lanes costs.new halves.new rows.new × (length home.new ≡ 8) }
+    requires lanes_2 { Lanes costs.old halves.old rows.old }
+    ensures lanes { Lanes costs.new halves.new rows.new }
     ensures rest { (length scratch.new ≡ length scratch.old) × (drop 4096 scratch.new ≡ drop 4096 scratch.old) }
     ensures marked { Marked at list n paths pair.now scratch.old costs.old rows.old home.old result scratch.new costs.new rows.new home.new }
 {
@@ -222,7 +252,9 @@ fn marked_phase(
     keep
 }
 
-// Phase s of row r: the paths of the list go on, at a marked phase with both symbols, else with 0. Answers how many there are then.
+/// Phase s of row r: the paths of the list go on, at a marked phase with both symbols, else with 0. Answers how many there are then.
+// Its parameters stay, flags too: docs/ARCHITECTURE.md names it. The length of `home` is said, since a run of the list builds its
+// state from it.
 pub fn one_phase(
     inner: usize,
     r: usize,
@@ -241,7 +273,7 @@ pub fn one_phase(
 ) -> usize
     requires inner_bound { (inner < 3) × (r < 16) × (s < 16) × (1 ≤ list) × (list ≤ 8) × (1 ≤ n) × (n ≤ 8) × (4096 ≤ length scratch.old) }
     requires shapes_value { (shapes.now ≡ get_or shape_table inner []) × (tables.now ≡ get_or path_table inner []) }
-    requires lanes_2 { Lanes costs.old halves.old rows.old × (length home.old ≡ 8) }
+    requires lanes_2 { Lanes costs.old halves.old rows.old }
     requires s_nonzero { stepped ≡ true → (0 < s) × ((i : ℕ) → i < n → KeptRow inner costs.old rows.old scratch.old r s i) }
     requires clean_2 { Clean (16 * r + s) n scratch.old }
     ensures lanes { Lanes costs.new halves.new rows.new × (length home.new ≡ 8) }
@@ -249,9 +281,14 @@ pub fn one_phase(
     ensures clean { Clean (16 * r + (s + 1)) result scratch.new }
     ensures phase { PhaseStep inner r s list marked n scratch.old costs.old home.old result scratch.new costs.new rows.new home.new }
 {
-    let pair = phase_totals(
-        inner, r, s, stepped, n, shapes, tables, scratch, costs, halves, rows,
-    );
+    let phase = RowPhase {
+        kernel: inner,
+        row: r,
+        number: s,
+        shapes,
+        tables,
+    };
+    let pair = phase.totals(stepped, n, scratch, costs, halves, rows);
     if !marked {
         list_phase::freeze_list(scratch, n, &pair[0]);
         return n;
@@ -271,69 +308,23 @@ pub fn one_phase(
     )
 }
 
-// The least totals of phase s + 1 of row r: in lane i of path i with symbol 0 at phase s, in lane 8 + i of the same path with symbol 1.
-// The phase makes its own rows.
-fn two_totals(
-    inner: usize,
-    r: usize,
-    s: usize,
-    n: usize,
-    shapes: &[[u8; 2]; 16],
-    tables: &[[u16; 16]; 16],
-    scratch: &[u8],
-    costs: &[[[u16; 16]; 2]; 16],
-    halves: &[[[u16; 16]; 2]; 16],
-    rows: &mut [[[u16; 16]; 2]; 16],
-) -> [[u16; 16]; 2]
-    requires inner_bound { (inner < 3) × (r < 16) × (s < 15) × (n ≤ 8) × (4096 ≤ length scratch.now) × (shape_at inner (s + 1) 1 ≡ 0) }
-    requires shapes_value { (shapes.now ≡ get_or shape_table inner []) × (tables.now ≡ get_or path_table inner []) }
-    requires lanes { Lanes costs.now halves.now rows.old }
-    ensures room { length rows.new ≡ 16 }
-    ensures held { (i : ℕ) (b : Bool) → i < n → Held inner (lane_costs costs.now (lane_of i b)) (row_symbols scratch.now r s i ++ (b ∷ [])) (score_rows rows.new (lane_of i b)) }
-    ensures totals { (i : ℕ) (b c : Bool) → i < n → cell 0 result (lane_of i b) c ≡ least (kernel_code inner) (lane_costs costs.now (lane_of i b)) ((row_symbols scratch.now r s i ++ (b ∷ [])) ++ (c ∷ [])) }
-{
-    let words = row_words(scratch, n, r);
-    let single = lane_moves::planes_of(&words);
-    let planes = lane_moves::twin_planes(&single, s);
-    lane_totals::totals(inner, s + 1, shapes, tables, costs, halves, &planes, rows)
-}
-
-// The lesser of two numbers.
-fn lesser(a: u16, b: u16) -> u16
-    ensures { result ≡ min a b }
-{
-    if a < b { a } else { b }
-}
-
 // Of eight lanes from `first` on the lesser total of the two symbols.
 fn lesser_totals(pair: &[[u16; 16]; 2], first: usize) -> [u16; 16]
     requires { first ≤ 8 }
     ensures { (i : ℕ) → i < 8 → get_or result i 0 ≡ min (cell 0 pair.now (first + i) false) (cell 0 pair.now (first + i) true) }
 {
     let mut out = [0u16; 16];
-    let mut i: usize = 0;
-    while i < 8 {
-        let zero = pair[0][first + i];
-        let one = pair[1][first + i];
-        out[i] = lesser(zero, one);
-        i += 1;
+    for i in 0..8 {
+        out[i] = pair[0][first + i].min(pair[1][first + i]);
     }
     out
 }
 
 // The lane of each of the first eight candidates.
 fn chosen_lanes(order: &[usize; 16]) -> [usize; 16]
-    requires { (j : ℕ) → j < 8 → get_or order.now j 0 < 16 }
     ensures { (j : ℕ) → j < 8 → get_or result j 0 ≡ get_or order.now j 0 % 2 * 8 + get_or order.now j 0 / 2 }
 {
-    let mut out = [0usize; 16];
-    let mut j: usize = 0;
-    while j < 8 {
-        let k = order[j];
-        out[j] = k % 2 * 8 + k / 2;
-        j += 1;
-    }
-    out
+    arrays::filled(0, |j| order[j] % 2 * 8 + order[j] / 2)
 }
 
 // The lane of the path that each of the first eight candidates goes on from.
@@ -342,11 +333,8 @@ fn parent_lanes(order: &[usize; 16], lanes: &[usize; 16]) -> [usize; 16]
     ensures { (j : ℕ) → j < 8 → get_or result j 0 ≡ get_or lanes.now (get_or order.now j 0 / 2) 0 }
 {
     let mut out = [0usize; 16];
-    let mut j: usize = 0;
-    while j < 8 {
-        let k = order[j] / 2;
-        out[j] = lanes[k];
-        j += 1;
+    for j in 0..8 {
+        out[j] = lanes[order[j] / 2];
     }
     out
 }
@@ -380,17 +368,13 @@ fn settle_two(
 fn lower_lanes(from: &[usize; 16]) -> [usize; 16]
     ensures { (j : ℕ) → j < 8 → get_or result j 0 ≡ get_or from.now j 0 % 8 }
 {
-    let mut out = [0usize; 16];
-    let mut j: usize = 0;
-    while j < 8 {
-        out[j] = from[j] % 8;
-        j += 1;
-    }
-    out
+    arrays::filled(0, |j| from[j] % 8)
 }
 
-// Phases s and s + 1 of row r, both marked, the second of which makes its own rows: only that one is stepped, for each path with
-// either symbol at phase s. Answers how many paths there are then.
+/// Phases s and s + 1 of row r, both marked, the second of which makes its own rows: only that one is stepped, for each path with
+/// either symbol at phase s. Answers how many paths there are then.
+// Its parameters stay: docs/ARCHITECTURE.md names it. No twin of `one_phase`: it steps the second phase alone, for both symbols of
+// the first.
 pub fn two_phases(
     inner: usize,
     r: usize,
@@ -407,14 +391,21 @@ pub fn two_phases(
 ) -> usize
     requires inner_bound { (inner < 3) × (r < 16) × (s < 15) × (1 ≤ list) × (list ≤ 8) × (1 ≤ n) × (n ≤ 8) × (4096 ≤ length scratch.old) × (shape_at inner (s + 1) 1 ≡ 0) }
     requires shapes_value { (shapes.now ≡ get_or shape_table inner []) × (tables.now ≡ get_or path_table inner []) }
-    requires lanes_2 { Lanes costs.old halves.old rows.old × (length home.old ≡ 8) }
+    requires lanes_2 { Lanes costs.old halves.old rows.old }
     requires clean_2 { Clean (16 * r + s) n scratch.old }
     ensures lanes { Lanes costs.new halves.new rows.new × (length home.new ≡ 8) }
     ensures rest { (length scratch.new ≡ length scratch.old) × (drop 4096 scratch.new ≡ drop 4096 scratch.old) }
     ensures clean { Clean (16 * r + (s + 2)) result scratch.new }
     ensures phases { TwoSteps inner r s list n scratch.old costs.old home.old result scratch.new costs.new rows.new home.new }
 {
-    let pair = two_totals(inner, r, s, n, shapes, tables, scratch, costs, halves, rows);
+    let phase = RowPhase {
+        kernel: inner,
+        row: r,
+        number: s,
+        shapes,
+        tables,
+    };
+    let pair = phase.next_totals(n, scratch, costs, halves, rows);
     let from = settle_two(16 * r + s, list, n, &pair, scratch);
     let count = ranking::kept(list, ranking::kept(list, n));
     let high = shapes[s + 1][0] as usize;

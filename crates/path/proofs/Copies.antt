@@ -1,63 +1,23 @@
--- Entries that are stored one by one. Assumes nothing.
-use mathlib.Core.Path.{◌≡◌, refl, sym, ap, ◌∙◌}
+-- Entries that are stored side by side. Assumes nothing.
+use mathlib.Core.Path.{◌≡◌, refl, sym, ap, ap₂, ◌∙◌}
 use mathlib.Core.List.{List, [], ◌∷◌, ◌++◌, append-nil, append_assoc}
-use Prim.Native.Nat.{ℕ, zero, suc, ◌+◌, ◌-◌, ◌≤◌, ◌<◌}
-use native.Mathlib.Nat.{zero-add, suc-add}
-use native.Mathlib.Numerals.{add-one}
+use Prim.Native.Nat.{ℕ, zero, suc, ◌+◌, ◌-◌, ◌≤◌}
 use native.Mathlib.Omega.{arith}
-use lib.ListN.{length, take, drop, get_or, set, replicate, length-drop, length-replicate, replicate-append-replicate}
-use lib.Seq.{take-suc, drop-cons, set_at, append_snoc, length-take-le, take_at, drop_at, take-take, take_all, drop-drop, drop-length, drop-paste, paste, get_or-drop}
-
--- One more entry of a list is copied to the front of another.
-pub copy-one : (old new found : List ℕ) (i x : ℕ) → i < length old → i < length found → new ≡ take i found ++ drop i old → x ≡ get_or found i 0
-    → set new i x ≡ take (i + 1) found ++ drop (i + 1) old
-copy-one old new found i x lo lf e f =
-    ap (λ (l : List ℕ). set l i x) (e ∙ ap (λ (l : List ℕ). take i found ++ l) (drop-cons old i 0 lo))
-    ∙ set_at (take i found) (get_or old i 0) (drop (suc i) old) x i (length-take-le i found (omega arith))
-    ∙ ap (λ y. take i found ++ y ∷ drop (suc i) old) f
-    ∙ sym (append_snoc (take i found) (get_or found i 0) (drop (suc i) old))
-    ∙ ap (λ (l : List ℕ). l ++ drop (suc i) old) (sym (take-suc found i 0 lf))
-    ∙ ap (λ k. take k found ++ drop k old) (sym (add-one i))
-
--- One more entry of a list from a place on is copied.
-pub copy-next : (old new s : List ℕ) (at i x : ℕ) → i < length old → at + i < length s → new ≡ take i (drop at s) ++ drop i old → x ≡ get_or s (at + i) 0
-    → set new i x ≡ take (i + 1) (drop at s) ++ drop (i + 1) old
-copy-next old new s at i x lo ls e f = copy-one old new (drop at s) i x lo (omega (arith, length-drop at s)) e (f ∙ sym (get_or-drop at s i 0))
-
--- All entries are copied.
-pub copied : (old new found : List ℕ) (i n : ℕ) → i ≡ n → length old ≡ n → new ≡ take i found ++ drop i old → new ≡ take n found
-copied old new found i n e h f =
-    f
-    ∙ ap (λ k. take k found ++ drop k old) e
-    ∙ ap (λ (l : List ℕ). take n found ++ l) (ap (λ k. drop k old) (sym h) ∙ drop-length old)
-    ∙ append-nil (take n found)
-
--- One more entry is cleared.
-pub clear-one : (old new : List ℕ) (i x : ℕ) → i < length old → new ≡ replicate i 0 ++ drop i old → x ≡ 0 → set new i x ≡ replicate (i + 1) 0 ++ drop (i + 1) old
-clear-one old new i x l e f =
-    ap (λ (l : List ℕ). set l i x) (e ∙ ap (λ (l : List ℕ). replicate i 0 ++ l) (drop-cons old i 0 l))
-    ∙ set_at (replicate i 0) (get_or old i 0) (drop (suc i) old) x i (length-replicate i 0)
-    ∙ ap (λ y. replicate i 0 ++ y ∷ drop (suc i) old) f
-    ∙ sym (append_snoc (replicate i 0) 0 (drop (suc i) old))
-    ∙ ap (λ (l : List ℕ). l ++ drop (suc i) old) (replicate-append-replicate i 1 0)
-    ∙ ap (λ k. replicate (i + 1) 0 ++ drop k old) (sym (add-one i))
-
--- An entry of the second list is stored.
-set-second : (s t : List ℕ) (n j v : ℕ) → length s ≡ n → set (s ++ t) (n + j) v ≡ s ++ set t j v
-set-second s t n j v e = rw (← e) (go s)
-  where
-    go : (s : List ℕ) → set (s ++ t) (length s + j) v ≡ s ++ set t j v
-    go [] = rw zero-add
-    go (x ∷ s) = rw suc-add (ap (λ (l : List ℕ). x ∷ l) (go s))
+use lib.ListN.{length, take, drop}
+use lib.Seq.{length-take-le, take_at, drop_at, take-take, take_all, drop-drop, drop-length, drop-paste, paste}
 
 -- The last four entries are stored.
-pub last-four : (s : List ℕ) → length s ≡ 32 → (a b c d : ℕ)
-    → set (set (set (set (s ++ (0 ∷ 0 ∷ 0 ∷ 0 ∷ [])) 32 a) 33 b) 34 c) 35 d ≡ s ++ (a ∷ b ∷ c ∷ d ∷ [])
-last-four s e a b c d =
-    ap (λ (l : List ℕ). set (set (set l 33 b) 34 c) 35 d) (set-second s (0 ∷ 0 ∷ 0 ∷ 0 ∷ []) 32 0 a e)
-    ∙ ap (λ (l : List ℕ). set (set l 34 c) 35 d) (set-second s (a ∷ 0 ∷ 0 ∷ 0 ∷ []) 32 1 b e)
-    ∙ ap (λ (l : List ℕ). set l 35 d) (set-second s (a ∷ b ∷ 0 ∷ 0 ∷ []) 32 2 c e)
-    ∙ set-second s (a ∷ b ∷ c ∷ 0 ∷ []) 32 3 d e
+pub last-four : (s y z : List ℕ) → length s ≡ 32 → length z ≡ 4 → take 32 (s ++ z) ++ (y ++ drop 4 (drop 32 (s ++ z))) ≡ s ++ y
+last-four s y z e f =
+    ap₂ (λ (a b : List ℕ). a ++ (y ++ drop 4 b)) (take_at s z 32 e) (drop_at s z 32 e)
+    ∙ ap (λ (t : List ℕ). s ++ (y ++ t)) (ap (λ k. drop k z) (sym f) ∙ drop-length z)
+    ∙ ap (λ (t : List ℕ). s ++ t) (append-nil y)
+
+-- Entries in the place of as many, as a paste.
+pub put-paste : (d s : List ℕ) (at n : ℕ) → length s ≡ n → take at d ++ (s ++ drop n (drop at d)) ≡ paste d at s n
+put-paste d s at n e =
+    ap₂ (λ (t u : List ℕ). take at d ++ (t ++ u)) (sym (take_all n s (omega arith))) (drop-drop n at d)
+    ∙ sym (append_assoc (take at d) (take n s) (drop (at + n) d))
 
 -- Entries that are pasted stand where they were pasted,
 pub pasted : (d s : List ℕ) (at n : ℕ) → at ≤ length d → length s ≡ n → take n (drop at (paste d at s n)) ≡ s

@@ -32,13 +32,6 @@ path_bytes p e =
 pub length-bytes : (p : Path) → length p.symbols ≡ 32 → length (bytes_of p) ≡ 36
 length-bytes p e = length-append p.symbols (four_bytes p.penalty) ∙ ap (λ k. k + 4) e
 
--- The path of bytes, with its symbols and its penalty read one by one.
-pub path-read : (b s : List ℕ) (n : ℕ) → s ≡ take 32 b → n ≡ get_or b 32 0 * 16777216 + get_or b 33 0 * 65536 + get_or b 34 0 * 256 + get_or b 35 0
-    → parts s n ≡ path_of b
-path-read b s n e f =
-    let g : n ≡ number_of (drop 32 b) = omega (arith, get_or-drop 32 b 0 0, get_or-drop 32 b 1 0, get_or-drop 32 b 2 0, get_or-drop 32 b 3 0) in
-    ap₂ parts e g
-
 -- What a store of record i does: the length stays, the path is there, the other records and what comes after them stay.
 pub stored : (old new b : List ℕ) (i at k : ℕ) (p : Path) → i < 8 → 4096 ≤ length old → length p.symbols ≡ 32
     → at ≡ 512 * i → b ≡ bytes_of p → k ≡ 36 → new ≡ paste old at b k

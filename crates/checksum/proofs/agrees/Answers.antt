@@ -1,24 +1,15 @@
 -- `checksum::agrees` meets its contract. Assumes nothing.
-use mathlib.Core.Path.{sym}
-use Prim.Native.Nat.{◌-◌}
-use native.Mathlib.Omega.{arith}
-use lib.ListN.{length}
-use lib.Seq.{length-take-le}
-use Rattle.checksum.proofs.Stored.{agreed}
+use mathlib.Core.Path.{◌≡◌, ◌∙◌, ap}
+use Prim.Native.Nat.{ℕ, ◌+◌, ◌-◌, ◌*◌}
+use lib.ListN.{length, get_or}
+use Rattle.bits.specs.Packed.{bits}
+use Rattle.checksum.proofs.Stored.{two_bytes, agreed}
 use borrow.Author.Rules.{rules}
 use Rattle.checksum.proofs.agrees.Goals as goal
-
-pub slice_bounds-checksum-end : goal.slice_bounds-checksum-end
-slice_bounds-checksum-end c =
-    let s = c.args.payload.now in
-    sym (length-take-le (length s - 2) s (omega arith))
-
-pub checksum-sum-requires : goal.checksum-sum-requires
-checksum-sum-requires c =
-    let s = c.args.payload.now in
-    omega (arith, length-take-le (length s - 2) s (omega arith))
 
 pub returns : goal.returns
 returns c =
     let s = c.args.payload.now in
-    agreed s _ _ (search rules) (search rules) (search rules) c.checksum-sum.ensures c.pair.ensures
+    let n : ℕ = length s - 2 in
+    let e : c.from_be_bytes.result ≡ 256 * get_or s n 0 + get_or s (n + 1) 0 = search rules in
+    agreed s _ _ (search rules) (search rules) (search rules) c.checksum-sum.ensures (ap (bits 16) e ∙ two_bytes _ _ (search rules))

@@ -1,7 +1,6 @@
 -- `checksum::crc_bit` meets its contract. Assumes nothing.
 use mathlib.Core.Path.{refl, ◌∙◌}
 use native.Mathlib.Omega.{arith}
-use borrow.Author.Rules.{rules}
 use Rattle.checksum.proofs.Register.{differs, added, plain}
 use Rattle.checksum.proofs.crc_bit.Goals as goal
 

@@ -1,25 +1,9 @@
--- `list_step::chosen_lanes` meets its contract: the lanes of the first j candidates are there. Assumes nothing.
-use mathlib.Core.Path.{◌≡◌, refl}
-use Prim.Native.Nat.{◌+◌, ◌*◌, ◌/◌, ◌%◌}
+-- `list_step::chosen_lanes` meets its contract: what the array is filled with. Assumes nothing.
 use native.Mathlib.Omega.{arith}
-use lib.ListN.{get_or}
-use Rattle.base.proofs.List.{each_next}
 use borrow.Author.Rules.{rules}
 use Rattle.list_step.proofs.chosen_lanes.Goals as goal
 
-pub loop-j-init : goal.loop-j-init
-loop-j-init c = (search rules, refl, λ i l. absurd (omega arith))
-
-pub overflow_add-out : goal.overflow_add-out
-overflow_add-out c =
-    let l = c.loop-j-test.true in
-    record { fits = omega (arith, l, c.requires c.loop-j.j l) }
-
-pub loop-j-preserved : goal.loop-j-preserved
-loop-j-preserved c =
-    let k = c.loop-j in
-    let a = c.args in
-    (search rules, search rules, each_next (λ i x. x ≡ get_or a.order.now i 0 % 2 * 8 + get_or a.order.now i 0 / 2) k.out k.j 0 _ (search rules) k.invariant.2 refl)
-
 pub returns : goal.returns
-returns c = λ i l. c.loop-j.invariant.2 i (omega arith)
+returns c = λ j l.
+    let k = c.filled.ensures j 0 (omega arith) in
+    search (rules, k)

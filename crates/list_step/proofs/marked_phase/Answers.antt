@@ -26,7 +26,7 @@ follow_parents-requires c =
     let p = c.requires in
     let e = c.settle-order in
     let q = c.parents-from in
-    (omega (arith, c.kept-keep.ensures, p.at_bound.2), p.at_bound.5, λ i l. omega (arith, q.ensures i l, inside e.ensures.settled.pens e.result e.ensures.settled.order_is i (omega arith)), p.lanes_2.0, p.lanes_2.1)
+    (omega (arith, c.kept-keep.ensures, p.at_bound.2), p.at_bound.5, λ i l. omega (arith, q.ensures i l, inside e.ensures.settled.pens e.result e.ensures.settled.order_is i (omega arith)), p.lanes_2)
 
 pub returns : goal.returns
 returns c =

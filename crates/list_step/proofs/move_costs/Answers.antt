@@ -9,33 +9,24 @@ use Rattle.list_step.proofs.move_costs.Goals as goal
 
 pub returns-then-not-is_moved : goal.returns-then-not-is_moved
 returns-then-not-is_moved c =
-    let s = c in
-    let a = s.args in
-    let m = c.is_moved in
-    let same : (j : ℕ) → j < a.n → get_or a.from.now j 0 ≡ j = m.ensures c.if-not-is_moved.true in record {
-      lanes = (s.requires.2, s.requires.3);
+    let a = c.args in
+    let same : (j : ℕ) → j < a.n → get_or a.from.now j 0 ≡ j = c.is_moved.ensures c.if-not-is_moved.true in record {
+      lanes = c.requires.2;
       costs = λ j t b l _. ap (λ i. lane_costs a.costs.now i t b) (sym (same j l));
       home = λ j l. ap (λ i. get_or a.home.now i 0) (sym (same j l));
     }
 
-pub rearrange-requires : goal.rearrange-requires
-rearrange-requires c =
-    let s = c in
-    (search rules, s.requires.2.3, λ l ll. omega (arith, s.requires.1 l ll))
-
 pub free_eight-requires : goal.free_eight-requires
 free_eight-requires c =
-    let s = c in
-    let w = c.rearrange.ensures.within 2047 s.requires.2.0 in
+    let w = c.rearrange.ensures.within 2047 c.requires.2.0 in
     λ j lj l b ll. omega (arith, w j lj l b ll)
 
 pub returns : goal.returns
 returns c =
-    let s = c in
     let n = c.free_eight.ensures in
     let m = c.rearrange.ensures in
-    let w = m.within 2047 s.requires.2.0 in record {
-      lanes = ((w, λ j lj l b ll. omega (arith, n.within 2047 w j lj l b ll), n.nodes, m.room, m.twins), c.moved_home.ensures.0);
-      costs = λ j t b l lt. m.moved t j b lt (omega (arith, l, s.requires.0));
-      home = λ j l. c.moved_home.ensures.1 j (omega (arith, l, s.requires.0));
+    let w = m.within 2047 c.requires.2.0 in record {
+      lanes = (w, λ j lj l b ll. omega (arith, n.within 2047 w j lj l b ll), n.nodes, search rules, m.twins);
+      costs = λ j t b l lt. m.moved t j b lt (omega (arith, l, c.requires.0));
+      home = λ j l. c.moved_home.ensures j (omega (arith, l, c.requires.0));
     }

@@ -15,11 +15,6 @@ settle-first-requires c =
       by_index = one-small s.args.n s.args.pair.now (c.lesser_totals.result ∷ c.lesser_totals-2.result ∷ []) p.at_bound.4 p.by_index (one-is s.args.pair.now _ _ c.lesser_totals.ensures c.lesser_totals-2.ensures);
     }
 
-pub chosen_lanes-lanes-requires : goal.chosen_lanes-lanes-requires
-chosen_lanes-lanes-requires c =
-    let e = c.settle-first in
-    λ j l. inside e.ensures.settled.pens e.result e.ensures.settled.order_is j (omega arith)
-
 pub moved_row-requires : goal.moved_row-requires
 moved_row-requires c =
     let e = c.settle-first in

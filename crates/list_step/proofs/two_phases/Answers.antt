@@ -9,6 +9,7 @@ use Rattle.windows.proofs.Stepping.{in-range}
 use Rattle.windows.proofs.Words.{pow-le, paths-are}
 use Rattle.lane.specs.Lanes.{lane_costs}
 use Rattle.list_step.proofs.Twofold.{twin-small, two_steps}
+use borrow.Author.Rules.{rules}
 use Rattle.list_step.proofs.two_phases.Goals as goal
 
 pub settle_two-from-requires : goal.settle_two-from-requires
@@ -16,8 +17,8 @@ settle_two-from-requires c =
     let s = c in
     let a = s.args in
     let p = s.requires in
-    let h = p.lanes_2.0 in
-    let t = c.two_totals-pair in record {
+    let h = p.lanes_2 in
+    let t = c.next_totals-pair in record {
       at_bound = (omega (arith, p.inner_bound.1, p.inner_bound.2), p.inner_bound.3, p.inner_bound.4, p.inner_bound.5, p.inner_bound.6, p.inner_bound.7);
       by_index = twin-small a.inner a.r a.s a.n t.result a.scratch.now a.costs.now h.costs-within h.cost-room p.inner_bound.6 t.ensures.totals;
     }
@@ -53,23 +54,23 @@ move_rows-requires c =
     let p = s.requires in
     let z = in-range a.inner (a.s + 1) p.inner_bound.0 (omega (arith, p.inner_bound.2)) 0 _ (ap (λ (t : List (List ℕ)). get_or t (a.s + 1) []) p.shapes_value.0) in
     let d : ℕ = get_or (get_or a.shapes.now (a.s + 1) []) 0 0 - (a.s + 1) in
-    (omega (arith, c.kept-count.ensures, p.inner_bound.4), omega (arith, paths-are d z.2, pow-le d z.2), c.settle_two-from.ensures.below, c.two_totals-pair.ensures.room)
+    (omega (arith, c.kept-count.ensures, p.inner_bound.4), omega (arith, paths-are d z.2, pow-le d z.2), c.settle_two-from.ensures.below)
 
 pub move_costs-requires : goal.move_costs-requires
 move_costs-requires c =
     let s = c in
     let a = s.args in
     let p = s.requires in
-    let h = p.lanes_2.0 in
-    (omega (arith, c.kept-count.ensures, p.inner_bound.4), λ j l. omega (arith, c.lower_lanes-below.ensures j l), (h.costs-within, h.halves-within, h.halves_are, h.cost-room, h.costs-twins), p.lanes_2.1)
+    let h = p.lanes_2 in
+    (omega (arith, c.kept-count.ensures, p.inner_bound.4), λ j l. omega (arith, c.lower_lanes-below.ensures j l), (h.costs-within, h.halves-within, h.halves_are, h.cost-room, h.costs-twins))
 
 pub returns : goal.returns
 returns c =
     let s = c in
     let a = s.args in
     let p = s.requires in
-    let h = p.lanes_2.0 in
-    let t = c.two_totals-pair in
+    let h = p.lanes_2 in
+    let t = c.next_totals-pair in
     let rows = t.new.rows in
     let m = c.settle_two-from in
     let new = m.new.scratch in
@@ -90,11 +91,11 @@ returns c =
     let q = two_steps a.inner a.r a.s a.n p.inner_bound.0 p.inner_bound.1 p.inner_bound.2 p.inner_bound.5 p.inner_bound.6 t.result a.scratch.now a.costs.now rows p.clean_2 h.costs-twins t.ensures.totals small t.ensures.held
     a.list p.inner_bound.3 p.inner_bound.4 a.home.now _ m.result new costs' rows' home narrow paths m.ensures.settled
     (λ j t c l lt. u.ensures.costs j t c (omega (arith, l, count)) lt ∙ ap (λ i. lane_costs a.costs.now i t c) (b.ensures j (omega (arith, l, p.inner_bound.4))))
-    (λ j t c l lt. v.ensures.rows j t c (omega (arith, l, count)) lt)
+    (λ j t c l lt. v.ensures j t c (omega (arith, l, count)) lt)
     (λ j l. u.ensures.home j (omega (arith, l, count)) ∙ ap (λ i. get_or a.home.now i 0) (b.ensures j (omega (arith, l, p.inner_bound.4))))
     c.kept-count.result count in
-    let w = u.ensures.lanes.0 in record {
-      lanes = (record { costs-within = w.0; halves-within = w.1; halves_are = w.2; cost-room = w.3; row_room = v.ensures.room; costs-twins = w.4 }, u.ensures.lanes.1);
+    let w = u.ensures.lanes in record {
+      lanes = (record { costs-within = w.0; halves-within = w.1; halves_are = w.2; cost-room = w.3; row_room = search rules; costs-twins = w.4 }, search rules);
       rest = m.ensures.rest;
       clean = q.1;
       phases = q.0;

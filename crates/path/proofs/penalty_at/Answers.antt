@@ -5,4 +5,4 @@ use borrow.Author.Rules.{rules}
 use Rattle.path.proofs.penalty_at.Goals as goal
 
 pub returns : goal.returns
-returns c = let a = c.args in penalty-read a.scratch.now a.i _ _ refl c.number_of.ensures
+returns c = let a = c.args in penalty-read a.scratch.now a.i _ _ refl (search rules)

@@ -6,5 +6,5 @@ use Rattle.path.proofs.row_word.Goals as goal
 
 pub returns : goal.returns
 returns c =
-    let s = c in
-    row-bits s.args.scratch.now s.args.i s.args.r _ _ s.requires.0 s.requires.1 s.requires.2 refl c.pair.ensures.0 c.pair.ensures.1
+    let r = c.requires in
+    row-bits c.args.scratch.now c.args.i c.args.r _ _ r.0 r.1 r.2 refl (search rules) (search rules)

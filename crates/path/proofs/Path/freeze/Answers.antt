@@ -1,6 +1,5 @@
 -- `path::Path::freeze` meets its contract. Assumes nothing.
 use Rattle.path.proofs.Growing.{leave-zeros}
-use borrow.Author.Rules.{rules}
 use Rattle.path.proofs.Path.freeze.Goals as goal
 
 pub returns : goal.returns
