@@ -1,5 +1,5 @@
 -- The payload that a record's bytes begin with, and the best record of one more. Assumes nothing.
-use mathlib.Core.Path.{◌≡◌, sym, ap, ◌∙◌}
+use mathlib.Core.Path.{◌≡◌, refl, sym, ap, ◌∙◌}
 use mathlib.Core.Bool.{Bool, true, false, false≢true, ◌||◌}
 use mathlib.Core.List.{List, ◌++◌}
 use Prim.Native.Nat.{ℕ, ◌+◌, ◌*◌, ◌/◌, ◌≤◌, ◌<◌}
@@ -9,13 +9,14 @@ use borrow.Author.Tests.{eq-eqb, ne_eqb, ltb-true, ltb-false}
 use lib.Dec.{ltb}
 use lib.ListN.{length, take, drop}
 use lib.Seq.{take_at}
+use Rattle.std.specs.Prelude.{Option, None, Some}
 use Rattle.bits.specs.Packed.{unpack}
 use Rattle.bits.proofs.Packed.{length-pack}
 use Rattle.payload.specs.Payload.{gather}
 use Rattle.mask.specs.Mask.{marked}
 use Rattle.list.proofs.Best.{best-stays, best-new}
 use Rattle.agreeing.specs.Agreeing.{payload_of}
-use Rattle.agreeing.specs.Found.{record_agrees, record_penalty, is_lower, BestRecord}
+use Rattle.agreeing.specs.Found.{record_agrees, record_penalty, is_lower, BestRecord, Lower, BestFound}
 
 -- A payload that was written to the front of 32 bytes is what their first bytes are,
 pub front : (mask : List ℕ) (u : List Bool) (old new : List ℕ) (bytes : ℕ) → 8 * bytes ≡ marked mask → new ≡ payload_of mask u ++ drop (marked mask / 8) old
@@ -79,3 +80,21 @@ module _ (mask scratch : List ℕ) (n i r : ℕ) (h : BestRecord mask scratch n 
       below : Dec (r < n) → (j : ℕ) → j < i → record_agrees mask scratch j ≡ true → record_penalty scratch i < record_penalty scratch j
       below (yes k) j l t = omega (arith, ltb-true (record_penalty scratch i) (record_penalty scratch r) (sym (below-best k) ∙ e), (h.found k).least j l t)
       below (no k) j l t = absurd (false≢true (sym (h.none (omega (arith, k)) j l) ∙ t))
+
+-- ---- the best so far, if there is one
+module _ (mask scratch : List ℕ) (n i : ℕ) where
+  -- One record more is passed over where its penalty is not lower,
+  pub found_stays : (best : Option ℕ) → BestFound mask scratch n i best → Lower scratch i best false → BestFound mask scratch n (i + 1) best
+  found_stays None h e = absurd (false≢true e)
+  found_stays (Some r) h e = (h.0, not_lower mask scratch n i r h.1 (lower-some scratch n r i (λ q. omega (arith, q, h.0)) ∙ sym e))
+
+  -- or its checksum does not agree;
+  pub found_passes : (best : Option ℕ) → BestFound mask scratch n i best → record_agrees mask scratch i ≡ false → BestFound mask scratch n (i + 1) best
+  found_passes None h e = not-agreeing mask scratch n i n h e
+  found_passes (Some r) h e = (h.0, not-agreeing mask scratch n i r h.1 e)
+
+  -- else it is the best.
+  pub found_new : (best : Option ℕ) → BestFound mask scratch n i best → i < n → Lower scratch i best true → record_agrees mask scratch i ≡ true
+      → BestFound mask scratch n (i + 1) (Some i)
+  found_new None h l e a = (l, lower-agreeing mask scratch n i n h l (lower-none scratch n n i refl) a)
+  found_new (Some r) h l e a = (l, lower-agreeing mask scratch n i r h.1 l (lower-some scratch n r i (λ q. omega (arith, q, h.0)) ∙ sym e) a)

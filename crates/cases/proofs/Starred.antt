@@ -16,6 +16,7 @@ use Rattle.answer.specs.Verdict.{Verdict, word, penalty, done, refused, is_accep
 use Rattle.polar.specs.Code.{channel}
 use Rattle.polar.specs.Follow.{scores}
 use Rattle.polar.specs.Kernel.{arikan}
+use Rattle.answer.proofs.Settle.{none_of, settle-none}
 use Rattle.polar.specs.Relation.{unit, sum_of, symbols}
 use Rattle.polar.specs.Fold.{folded, blocks}
 use Rattle.folds.specs.Range.{value_limit, first_outside}
@@ -154,7 +155,8 @@ shown (quantising scale x value) t =
     let h = (and-eq-true_iff (f && is_accepted (settle (marks_checks scale xs (replicate 16 0) 256) done)) _).0 t in
     let g = (and-eq-true_iff f _).0 h.0 in
     let both = (and-eq-true_iff (fits binary32 scale) _).0 g.0 in
-    let job = Quantised.accepted-job scale xs (replicate 16 0) (replicate 256 (pos 0)) g.1 in
+    let cs = marks_checks scale xs (replicate 16 0) 256 in
+    let job = Quantised.accepted-job scale xs (replicate 16 0) (replicate 256 (pos 0)) (sym (settle-none cs done (none_of cs done g.1))) in
     (both.0, both.1, job ∙ ap (λ (l : List ℤ). (done, l)) (append-nil (tabulate 256 (value_at scale xs (replicate 16 0))) ∙ list-eq same_score score-eq _ (replicate 256 value) h.1))
 
 unfoldable tests : List Case → Bool

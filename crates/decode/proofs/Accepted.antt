@@ -14,7 +14,7 @@ use Rattle.bits.specs.Packed.{bits, unpack, pack}
 use Rattle.payload.specs.Payload.{ones, gather}
 use Rattle.bits.proofs.Packed.{length-unpack, length-pack, unpack-pack, zero-at}
 use Rattle.answer.specs.Verdict.{Verdict, done, is_accepted, settle, after}
-use Rattle.answer.proofs.Settle.{None, none_of, settle-none, after-refused}
+use Rattle.answer.proofs.Settle.{None, none_of}
 use Rattle.mask.specs.Mask.{marked, bad_mask, payload_bytes}
 use Rattle.mask.proofs.Mask.{bytes-eighth}
 use Rattle.polar.specs.Code.{channel, score}
@@ -108,20 +108,9 @@ follow-passes p values symbol_bytes score_room penalty_room n =
     }
 
 module _ (p : Plan) (values : List ℤ) (symbols : List ℕ) (old_scores : List ℤ) (old_penalties : List ℕ) where
-  -- A refused job leaves its buffers.
-  pub follow-refused : (v : Verdict) → v ≡ settle (frame_follow_checks p values (length symbols) (length old_scores) (length old_penalties)) done → is_accepted v ≡ false
-      → frame_follow p values symbols old_scores old_penalties ≡ (v, old_scores, old_penalties)
-  unfolding frame_follow
-  follow-refused v e r =
-      let u = unpack symbols in
-      let new = scores (plan_code p) (channel values) u in
-      let new' = penalties (plan_code p) (channel values) u in
-      ap (λ (x : Verdict). (x, after x old_scores new, after x old_penalties new')) (sym e)
-      ∙ ap₂ (λ (x : List ℤ) (y : List ℕ). (v, x, y)) (after-refused v old_scores new r) (after-refused v old_penalties new' r)
-
-  module _ (ok : is_accepted (settle (frame_follow_checks p values (length symbols) (length old_scores) (length old_penalties)) done) ≡ true) where
+  module _ (ok : done ≡ settle (frame_follow_checks p values (length symbols) (length old_scores) (length old_penalties)) done) where
     pub follow-accepted : FollowAccepted p values (length symbols) (length old_scores) (length old_penalties)
-    follow-accepted = follow-passes p values (length symbols) (length old_scores) (length old_penalties) (none_of (frame_follow_checks p values (length symbols) (length old_scores) (length old_penalties)) done ok)
+    follow-accepted = follow-passes p values (length symbols) (length old_scores) (length old_penalties) (none_of (frame_follow_checks p values (length symbols) (length old_scores) (length old_penalties)) done (ap is_accepted (sym ok)))
 
     -- An accepted job leaves the scores and penalties of the given symbols, and what lies past them.
     pub follow-done : (given rows : List ℕ) (new_scores : List ℤ) (new_penalties : List ℕ) → rows_bits (row_count p) given ≡ unpack symbols
@@ -134,11 +123,10 @@ module _ (p : Plan) (values : List ℤ) (symbols : List ℕ) (old_scores : List 
         let n : ℕ = symbol_count p in
         let none = rows_bits (row_count p) (replicate 256 0) in
         let layered = follow-accepted.ready.layered in
-        let cs = frame_follow_checks p values (length symbols) (length old_scores) (length old_penalties) in
         let lu : length u ≡ n = length-unpack symbols ∙ ap (λ n. 8 * n) follow-accepted.long ∙ bytes_bits p layered in
         let same : rows_bits (row_count p) rows ≡ u =
         given-only C m (bit none) (rows_bits (row_count p) rows) u n (length_symbols p layered rows) lu (no_bits p layered) (subst (λ w. SymbolsBy C m (bit none) (bit w) (rows_bits (row_count p) rows)) eg g.symbols-by) in
-        ap (λ (x : Verdict). (x, after x old_scores (scores C m u), after x old_penalties (penalties C m u))) (settle-none cs done (none_of cs done ok))
+        ap (λ (x : Verdict). (x, after x old_scores (scores C m u), after x old_penalties (penalties C m u))) (sym ok)
         ∙ ap₂ (λ (x : List ℤ) (y : List ℕ). (done, x, y))
         (ap (λ n. scores C m u ++ drop n old_scores) (length-scores C m u ∙ lu) ∙ sym (g.scores-are ∙ ap (λ w. scores C m w ++ drop n old_scores) same))
         (ap (λ n. penalties C m u ++ drop n old_penalties) (length-penalties C m u ∙ lu) ∙ sym (g.penalties-are ∙ ap (λ w. penalties C m w ++ drop n old_penalties) same))
@@ -183,22 +171,9 @@ choose-is true s = refl
 choose-is false s = refl
 
 module _ (p : Plan) (values : List ℤ) (mask : List ℕ) (old_scores : List ℤ) (old_penalties payload : List ℕ) where
-  -- A refused job leaves its buffers.
-  pub decode-refused : (v : Verdict) → v ≡ settle (frame_decode_checks p values mask (length old_scores) (length old_penalties) (length payload)) done → is_accepted v ≡ false
-      → frame_decode p values mask old_scores old_penalties payload ≡ (v, old_scores, old_penalties, payload)
-  unfolding frame_decode
-  decode-refused v e r =
-      let u = decided p values mask in
-      let new = scores (plan_code p) (channel values) u in
-      let new' = penalties (plan_code p) (channel values) u in
-      let new'' = pack (marked mask / 8) (gather (unpack mask) u) in
-      ap (λ (x : Verdict). (x, after x old_scores new, after x old_penalties new', after x payload new'')) (sym e)
-      ∙ ap (λ (x : List ℤ). (v, x, after v old_penalties new', after v payload new'')) (after-refused v old_scores new r)
-      ∙ ap₂ (λ (x y : List ℕ). (v, old_scores, x, y)) (after-refused v old_penalties new' r) (after-refused v payload new'' r)
-
-  module _ (ok : is_accepted (settle (frame_decode_checks p values mask (length old_scores) (length old_penalties) (length payload)) done) ≡ true) where
+  module _ (ok : done ≡ settle (frame_decode_checks p values mask (length old_scores) (length old_penalties) (length payload)) done) where
     pub decode-accepted : DecodeAccepted p values mask (length old_scores) (length old_penalties) (length payload)
-    decode-accepted = decode-passes p values mask (length old_scores) (length old_penalties) (length payload) (none_of (frame_decode_checks p values mask (length old_scores) (length old_penalties) (length payload)) done ok)
+    decode-accepted = decode-passes p values mask (length old_scores) (length old_penalties) (length payload) (none_of (frame_decode_checks p values mask (length old_scores) (length old_penalties) (length payload)) done (ap is_accepted (sym ok)))
 
     -- Rows by free marks and no given symbols are the decoder's symbols.
     rows-decided : (free rows : List ℕ) (new_scores : List ℤ) (new_penalties : List ℕ) → rows_bits (row_count p) free ≡ unpack mask
@@ -226,11 +201,10 @@ module _ (p : Plan) (values : List ℤ) (mask : List ℕ) (old_scores : List ℤ
         let m = channel values in
         let u = decided p values mask in
         let n : ℕ = symbol_count p in
-        let cs = frame_decode_checks p values mask (length old_scores) (length old_penalties) (length payload) in
         let same : rows_bits (row_count p) rows ≡ u = rows-decided free rows new_scores new_penalties ef g in
         let lu : length u ≡ n = ap length (sym same) ∙ length_symbols p decode-accepted.ready.layered rows in
         let k : ℕ = ones (unpack mask) / 8 in
-        ap (λ (x : Verdict). (x, after x old_scores (scores C m u), after x old_penalties (penalties C m u), after x payload (pack k (gather (unpack mask) u)))) (settle-none cs done (none_of cs done ok))
+        ap (λ (x : Verdict). (x, after x old_scores (scores C m u), after x old_penalties (penalties C m u), after x payload (pack k (gather (unpack mask) u)))) (sym ok)
         ∙ ap (λ (x : List ℤ). (done, x, penalties C m u ++ drop (length (penalties C m u)) old_penalties, pack k (gather (unpack mask) u) ++ drop (length (pack k (gather (unpack mask) u))) payload))
         (ap (λ n. scores C m u ++ drop n old_scores) (length-scores C m u ∙ lu) ∙ sym (g.scores-are ∙ ap (λ w. scores C m w ++ drop n old_scores) same))
         ∙ ap₂ (λ (x y : List ℕ). (done, new_scores, x, y))

@@ -12,7 +12,7 @@ use Rattle.payload.specs.Payload.{ones, gather}
 use Rattle.bits.proofs.Packed.{length-unpack, length-pack, unpack-append, unpack-pack}
 use Rattle.payload.proofs.Payload.{length-gather}
 use Rattle.payload.proofs.Marked.{gather-at, ones-before, marked-phase}
-use Rattle.answer.specs.Verdict.{Verdict, done, is_accepted, after}
+use Rattle.answer.specs.Verdict.{Verdict, done, after}
 use Rattle.answer.proofs.Written.{after_front, after-at, after-room, after-rest}
 use Rattle.mask.specs.Mask.{marked}
 use Rattle.mask.proofs.Mask.{bytes-marked, bytes-eighth}
@@ -56,7 +56,7 @@ pub frame-follow-exact : (p : Plan) (values : List ℤ) (symbols : List ℕ) (sc
     → let r = frame_follow p values symbols scores₀ penalties₀ in r.0 ≡ done → FrameExact p values (unpack symbols) scores₀ r.1 penalties₀ r.2
 unfolding frame_follow
 frame-follow-exact p values symbols scores₀ penalties₀ ok =
-    let q = follow-accepted p values symbols scores₀ penalties₀ (ap is_accepted ok) in
+    let q = follow-accepted p values symbols scores₀ penalties₀ (sym ok) in
     frame-exact p values (unpack symbols) (length-unpack symbols ∙ ap (λ n. 8 * n) q.long ∙ bytes_bits p q.ready.layered) _ ok scores₀ penalties₀
 
 -- The bits of the bytes that a job of 8n payload bits leaves.
@@ -79,7 +79,7 @@ frame-decode-exact p values mask scores₀ penalties₀ payload₀ ok =
     let m = channel values in
     let marks = unpack mask in
     let u = decided p values mask in
-    let q = decode-accepted p values mask scores₀ penalties₀ payload₀ (ap is_accepted ok) in
+    let q = decode-accepted p values mask scores₀ penalties₀ payload₀ (sym ok) in
     let lm : length marks ≡ symbol_count p = length-unpack mask ∙ ap (λ n. 8 * n) q.mask-count ∙ bytes_bits p q.ready.layered in
     let lu : length u ≡ symbol_count p = length-decode C m (bit marks) ∙ plan-size p in
     let k : ones marks ≡ 8 * (ones marks / 8) = omega (arith, bytes-marked (byte_count p) mask q.mask-count q.good, bytes-eighth (byte_count p) mask q.mask-count q.good) in
@@ -116,12 +116,12 @@ pub frame-follow-bound : (p : Plan) (values : List ℤ) (symbols : List ℕ) (sc
     → let r = frame_follow p values symbols scores₀ penalties₀ in r.0 ≡ done → FrameWithin p r.1 r.2
 unfolding frame_follow
 frame-follow-bound p values symbols scores₀ penalties₀ ok =
-    let q = follow-accepted p values symbols scores₀ penalties₀ (ap is_accepted ok) in
+    let q = follow-accepted p values symbols scores₀ penalties₀ (sym ok) in
     frame_bound p values (unpack symbols) (q.ready.inside ∙ sym q.ready.count) (length-unpack symbols ∙ ap (λ n. 8 * n) q.long ∙ bytes_bits p q.ready.layered) _ ok scores₀ penalties₀
 
 pub frame-decode-bound : (p : Plan) (values : List ℤ) (mask : List ℕ) (scores₀ : List ℤ) (penalties₀ payload₀ : List ℕ)
     → let r = frame_decode p values mask scores₀ penalties₀ payload₀ in r.0 ≡ done → FrameWithin p r.1 r.2
 unfolding frame_decode decided
 frame-decode-bound p values mask scores₀ penalties₀ payload₀ ok =
-    let q = decode-accepted p values mask scores₀ penalties₀ payload₀ (ap is_accepted ok) in
+    let q = decode-accepted p values mask scores₀ penalties₀ payload₀ (sym ok) in
     frame_bound p values (decided p values mask) (q.ready.inside ∙ sym q.ready.count) (length-decode (plan_code p) (channel values) (bit (unpack mask)) ∙ plan-size p) _ ok scores₀ penalties₀

@@ -10,35 +10,27 @@ ghost use Rattle.grid.specs.Grid.{rows_bits};
 ghost use Rattle.frame_run.specs.Run.{row_count};
 ghost use Rattle.decode.specs.Jobs.{frame_follow, frame_decode};
 
-use answer::Answer;
+use answer::Refusal;
 use plan::Plan;
 
-// Frame follow: the scores and penalties of the symbols of a frame over its channel values.
+/// Frame follow: the scores and penalties of the symbols of a frame over its channel values.
+#[tactic(auto, unfolding(crate::specs::Jobs::frame_follow))]
 pub fn frame_follow(
     plan: Plan,
     values: &[i8],
     symbols: &[u8],
     scores: &mut [i32],
     penalties: &mut [u32],
-) -> Answer
+) -> Result<(), Refusal>
     ensures { frame_follow plan values.now symbols.now scores.old penalties.old ≡ (verdict result, scores.new, penalties.new) }
 {
-    let answer = decode_checks::follow_check(
-        plan,
-        values,
-        symbols.len(),
-        scores.len(),
-        penalties.len(),
-    );
-    if !answer::accepted(answer) {
-        return answer;
-    }
+    decode_checks::follow_check(plan, values, symbols.len(), scores.len(), penalties.len())?;
     let n = plan::bytes(plan) / 2;
     let free = [0u16; 256];
     let mut given = [0u16; 256];
     grid::rows_of(symbols, &mut given[..n]);
     frame_run::frame_run(plan, values, &free, &given, scores, penalties);
-    Answer::Done
+    Ok(())
 }
 
 // Writes the payload: the symbols of rows at the marked phases.
@@ -52,7 +44,8 @@ fn store_payload(plan: Plan, mask: &[u8], rows: &[u16], payload: &mut [u8])
     payload::gather(mask, &symbols[..bytes], payload);
 }
 
-// Frame decode: the scores and penalties of the decoder's own symbols, and its payload.
+/// Frame decode: the scores and penalties of the decoder's own symbols, and its payload.
+#[tactic(auto, unfolding(crate::specs::Jobs::frame_decode))]
 pub fn frame_decode(
     plan: Plan,
     values: &[i8],
@@ -60,25 +53,22 @@ pub fn frame_decode(
     scores: &mut [i32],
     penalties: &mut [u32],
     payload: &mut [u8],
-) -> Answer
+) -> Result<(), Refusal>
     ensures { frame_decode plan values.now mask.now scores.old penalties.old payload.old ≡ (verdict result, scores.new, penalties.new, payload.new) }
 {
-    let answer = decode_checks::decode_check(
+    decode_checks::decode_check(
         plan,
         values,
         mask,
         scores.len(),
         penalties.len(),
         payload.len(),
-    );
-    if !answer::accepted(answer) {
-        return answer;
-    }
+    )?;
     let n = plan::bytes(plan) / 2;
     let mut free = [0u16; 256];
     let given = [0u16; 256];
     grid::rows_of(mask, &mut free[..n]);
     let rows = frame_run::frame_run(plan, values, &free, &given, scores, penalties);
     store_payload(plan, mask, &rows, payload);
-    Answer::Done
+    Ok(())
 }

@@ -1,19 +1,17 @@
 -- What the acceptance of kernel follow's checks yields, and what the job leaves. Assumes nothing.
 use mathlib.Core.Path.{◌≡◌, refl, sym, ap, ap₂, ◌∙◌}
-use mathlib.Core.Bool.{Bool, true, false, not}
+use mathlib.Core.Bool.{Bool, true}
 use mathlib.Core.List.{List, ◌++◌}
 use Prim.Native.Nat.{ℕ, ◌≤◌, ◌<◌}
 use native.Mathlib.Omega.{arith}
 use borrow.Author.Tests.{not-false, eqb-true, ltb-false}
-use lib.Dec.{eqb, ltb}
 use lib.IntN.{ℤ}
 use lib.ListN.{length, drop}
-use lib.Seq.{paste, take_all}
 use Rattle.base.specs.Bit.{bit}
 use Rattle.bits.specs.Packed.{bits}
 use Rattle.bits.proofs.Packed.{length-bits, zero-at}
 use Rattle.answer.specs.Verdict.{Verdict, done, is_accepted, settle, after}
-use Rattle.answer.proofs.Settle.{None, none_of, settle-none, after-refused}
+use Rattle.answer.proofs.Settle.{None, none_of, settle-none}
 use Rattle.polar.specs.Code.{Costs, channel}
 use Rattle.polar.specs.Follow.{scores}
 use Rattle.polar.proofs.Follow.{scores-cong, length-scores}
@@ -35,14 +33,12 @@ pub record Accepted (k : ℕ) (values : List ℤ) (room : ℕ) : Type 0 where
 passes : (k : ℕ) (values : List ℤ) (room : ℕ) → None (kernel_follow_checks k values room) → Accepted k values room
 unfolding kernel_follow_checks
 passes k values room n =
-    let wrong : not (eqb (length values) 16) ≡ false = search (n.1.0, n.1.1.0) in
-    let short : ltb room 16 ≡ false = search (n.1.0, n.1.1.0) in
-    let e = eqb-true (length values) 16 (not-false _ wrong) in
+    let e = eqb-true (length values) 16 (not-false _ n.1.0) in
     let l = ltb-false (first_outside value_limit values) (length values) n.1.1.1.0 in
     record {
       known = kernel-lt k (not-false _ n.0);
       count = e;
-      room-enough = ltb-false room 16 short;
+      room-enough = ltb-false room 16 n.1.1.0;
       inside = omega (arith, outside-le value_limit values);
     }
 
@@ -54,16 +50,6 @@ module _ (k : ℕ) (values : List ℤ) (room : ℕ) (a : is_accepted (settle (ke
   -- and the verdict is that all is done.
   pub accepted-done : settle (kernel_follow_checks k values room) done ≡ done
   accepted-done = settle-none (kernel_follow_checks k values room) done (none_of (kernel_follow_checks k values room) done a)
-
-left : (v w : Verdict) (out new : List ℤ) → v ≡ w → is_accepted v ≡ false → ◌≡◌ {A = Verdict × List ℤ} (w, after w out new) (v, out)
-left v w out new e r = ap (λ (x : Verdict). (x, after x out new)) (sym e) ∙ ap (λ (l : List ℤ). (v, l)) (after-refused v out new r)
-
--- A refused job leaves its buffer.
-pub refused-job : (k : ℕ) (values : List ℤ) (symbols : ℕ) (out : List ℤ) (v : Verdict) → v ≡ settle (kernel_follow_checks k values (length out)) done
-    → is_accepted v ≡ false → kernel_follow k values symbols out ≡ (v, out)
-unfolding kernel_follow
-refused-job k values symbols out v e r =
-    left v _ out _ e r
 
 -- An accepted job leaves the scores and what lies past them.
 pub accepted-job : (k : ℕ) (values : List ℤ) (symbols : ℕ) (out : List ℤ) → is_accepted (settle (kernel_follow_checks k values (length out)) done) ≡ true
@@ -81,12 +67,11 @@ accepted-job k values symbols out a m h found last f l =
 
 -- So does a run with nothing free and these symbols given.
 pub run-job : (k : ℕ) (values : List ℤ) (symbols : ℕ) (out : List ℤ) → is_accepted (settle (kernel_follow_checks k values (length out)) done) ≡ true
-    → (x : ℕ) (found : List ℤ) → KernelRun k values 0 symbols x found → (last : List ℤ) → last ≡ paste out 0 found 16
+    → (x : ℕ) (found : List ℤ) → KernelRun k values 0 symbols x found → (last : List ℤ) → last ≡ found ++ drop 16 out
     → kernel_follow k values symbols out ≡ (done, last)
 run-job k values symbols out a x found r last l =
     let C = kernel_code k in
     let u = bits 16 symbols in
     let same : bits 16 x ≡ u = given-only C (channel values) (bit (bits 16 0)) (bits 16 x) u 16 (length-bits 16 x) (length-bits 16 symbols) (λ i _. zero-at 16 i) r.symbols-by in
     let f : found ≡ scores C (channel values) u = r.scores-are ∙ ap (scores C (channel values)) same in
-    let lf : length found ≡ 16 = ap length f ∙ length-scores C (channel values) u ∙ length-bits 16 symbols in
-    accepted-job k values symbols out a (channel values) (λ j b _. refl) found last f (l ∙ ap (λ (t : List ℤ). t ++ drop 16 out) (take_all 16 found (omega arith)))
+    accepted-job k values symbols out a (channel values) (λ j b _. refl) found last f l

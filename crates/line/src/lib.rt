@@ -2,23 +2,23 @@
 #![tactic(auto)]
 
 ghost use Rattle.std.specs.Prelude.{◌≡◌, ◌++◌, map, ◌≤◌, ◌<◌, length, drop};
-ghost use Rattle.answer.specs.Verdict.{verdict, number_of, place_of};
+ghost use Rattle.answer.specs.Verdict.{refusal, number_of, place_of};
 ghost use Rattle.text.specs.Put.{Put};
 ghost use Rattle.line.specs.Line.{ok_lines, refused_line, line_of, signed_byte, plan_of, mask_of, decode_of};
 ghost use Rattle.line.specs.Line.{line as Line·line};
 
-use answer::Answer;
+use answer::Refusal;
 use plan::Plan;
 
 // Puts the line of a refusal. Each name is where its part ends.
-fn put_refused(a: Answer, out: &mut [u8]) -> usize
+fn put_refused(e: Refusal, out: &mut [u8]) -> usize
     requires { length out.old ≡ 74 }
-    ensures { Put (refused_line (number_of (verdict a)) (place_of (verdict a))) 0 result out.old out.new }
+    ensures { Put (refused_line (number_of (refusal e)) (place_of (refusal e))) 0 result out.old out.new }
 {
     let head = text::put(b"refused ", 0, out);
-    let number = text::put_decimal(answer::number(a) as u64, head, out);
+    let number = text::put_decimal(e.number() as u64, head, out);
     let space = text::put(b" ", number, out);
-    let place = text::put_decimal(answer::place(a) as u64, space, out);
+    let place = text::put_decimal(e.place() as u64, space, out);
     text::put(b"\n", place, out)
 }
 
@@ -39,11 +39,7 @@ fn put_ok(penalty: u32, payload: &[u8], out: &mut [u8]) -> usize
 fn value(b: u8) -> i8
     ensures { result ≡ signed_byte b }
 {
-    if b < 128 {
-        b as i8
-    } else {
-        (b as i16 - 256) as i8
-    }
+    b.cast_signed()
 }
 
 // The values of 256 value bytes.
@@ -52,10 +48,8 @@ fn values(bytes: &[u8]) -> [i8; 256]
     ensures { result ≡ map signed_byte bytes.now }
 {
     let mut out = [0i8; 256];
-    let mut i: usize = 0;
-    while i < 256 {
+    for i in 0..256 {
         out[i] = value(bytes[i]);
-        i += 1;
     }
     out
 }
@@ -74,31 +68,30 @@ fn put_decoded(input: &[u8], out: &mut [u8]) -> usize
     let mut scores = [0i32; 256];
     let mut penalties = [0u32; 256];
     let mut payload = [0u8; 32];
-    let a = decode::frame_decode(
+    match decode::frame_decode(
         plan,
         &received,
         mask,
         &mut scores,
         &mut penalties,
         &mut payload,
-    );
-    if !answer::accepted(a) {
-        return put_refused(a, out);
+    ) {
+        Ok(()) => put_ok(
+            penalties[255],
+            part::payload_part(plan, mask, &payload),
+            out,
+        ),
+        Err(e) => put_refused(e, out),
     }
-    put_ok(
-        penalties[255],
-        part::payload_part(plan, mask, &payload),
-        out,
-    )
 }
 
-// Fills the buffer with all that is printed for an input of any length, and answers how many bytes that is. What lies past
-// them stays. The buffer's type gives its length, the longest output's, so there is none that is too short.
+/// Fills the buffer with all that is printed for an input of any length, and answers how many bytes that is. What lies past
+/// them stays. The buffer's type gives its length, the longest output's, so there is none that is too short.
 pub fn line(input: &[u8], out: &mut [u8; 74]) -> usize
     ensures { (result ≡ length (Line·line input.now)) × (out.new ≡ Line·line input.now ++ drop result out.old) }
 {
     if input.len() != 290 {
-        return put_refused(Answer::WrongLength, out);
+        return put_refused(Refusal::WrongLength, out);
     }
     put_decoded(input, out)
 }

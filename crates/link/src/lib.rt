@@ -2,7 +2,7 @@
 #![tactic(auto)]
 
 ghost use Rattle.std.specs.Prelude.{◌≡◌};
-ghost use Rattle.answer.specs.Verdict.{verdict};
+ghost use Rattle.answer.specs.Verdict.{verdict, word_verdict, penalty_verdict};
 ghost use Rattle.kernel.specs.Jobs.{kernel_encode, kernel_undo};
 ghost use Rattle.part.specs.Part.{part_length};
 ghost use Rattle.order.specs.Jobs.{information_mask};
@@ -13,71 +13,73 @@ ghost use Rattle.quantiser.specs.Jobs.{values_from_marks};
 ghost use Rattle.list_decode.specs.Jobs.{list_decode};
 ghost use Rattle.link.specs.Outcomes.{outcome_of, outcome_with, outcome_with_two, outcome_with_three, word_outcome_of, penalty_outcome_of, penalty_outcome_with_two};
 
-use answer::Answer;
+use answer::Refusal;
 use plan::Plan;
 
-// The outcome of a job without a word or a penalty: the number of the condition that refused it, 0 if accepted, and the place that it names.
+// Three structs, and none over a type: the C interface has three structs.
+
+/// The outcome of a job without a word or a penalty: the number of the condition that refused it, 0 if accepted, and the place that it names.
 #[repr(C)]
-#[derive(Clone, Copy)]
+#[derive(Clone, Copy, Debug, PartialEq, Eq)]
 pub struct Outcome {
     pub number: u32,
     pub place: usize,
 }
 
-// The outcome of a job with a word, 0 if refused.
+/// The outcome of a job with a word, 0 if refused.
 #[repr(C)]
-#[derive(Clone, Copy)]
+#[derive(Clone, Copy, Debug, PartialEq, Eq)]
 pub struct WordOutcome {
     pub number: u32,
     pub place: usize,
     pub word: u16,
 }
 
-// The outcome of a job with a penalty, 0 if refused.
+/// The outcome of a job with a penalty, 0 if refused.
 #[repr(C)]
-#[derive(Clone, Copy)]
+#[derive(Clone, Copy, Debug, PartialEq, Eq)]
 pub struct PenaltyOutcome {
     pub number: u32,
     pub place: usize,
     pub penalty: u32,
 }
 
-// The outcome of an answer.
-pub fn outcome_of(a: Answer) -> Outcome
+/// The outcome of a result, whatever it holds.
+pub fn outcome_of<T: Copy>(a: Result<T, Refusal>) -> Outcome
     ensures { result ≡ outcome_of (verdict a) }
 {
-    let number = answer::number(a) as u32;
-    let place = answer::place(a);
+    let (number, place) = match a {
+        Ok(_) => (0, 0),
+        Err(e) => (u32::from(e.number()), e.place()),
+    };
     Outcome { number, place }
 }
 
-// The outcome of an answer, with its word.
-pub fn word_outcome_of(a: Answer) -> WordOutcome
-    ensures { result ≡ word_outcome_of (verdict a) }
+/// The outcome of a result, with its word.
+pub fn word_outcome_of(a: Result<u16, Refusal>) -> WordOutcome
+    ensures { result ≡ word_outcome_of (word_verdict a) }
 {
     let o = outcome_of(a);
-    let word = answer::word(a);
     WordOutcome {
         number: o.number,
         place: o.place,
-        word,
+        word: a.unwrap_or(0),
     }
 }
 
-// The outcome of an answer, with its penalty.
-pub fn penalty_outcome_of(a: Answer) -> PenaltyOutcome
-    ensures { result ≡ penalty_outcome_of (verdict a) }
+/// The outcome of a result, with its penalty.
+pub fn penalty_outcome_of(a: Result<u32, Refusal>) -> PenaltyOutcome
+    ensures { result ≡ penalty_outcome_of (penalty_verdict a) }
 {
     let o = outcome_of(a);
-    let penalty = answer::penalty(a);
     PenaltyOutcome {
         number: o.number,
         place: o.place,
-        penalty,
+        penalty: a.unwrap_or(0),
     }
 }
 
-// Kernel encode: the word of sixteen symbols.
+/// Kernel encode: the word of sixteen symbols.
 #[unsafe(no_mangle)]
 pub extern "C" fn nospridda_kernel_encode(kernel: u8, symbols: u16) -> WordOutcome
     ensures { result ≡ word_outcome_of (kernel_encode kernel symbols) }
@@ -85,7 +87,7 @@ pub extern "C" fn nospridda_kernel_encode(kernel: u8, symbols: u16) -> WordOutco
     word_outcome_of(kernel::kernel_encode(kernel, symbols))
 }
 
-// Kernel undo: the symbols of a word of sixteen bits.
+/// Kernel undo: the symbols of a word of sixteen bits.
 #[unsafe(no_mangle)]
 pub extern "C" fn nospridda_kernel_undo(kernel: u8, word: u16) -> WordOutcome
     ensures { result ≡ word_outcome_of (kernel_undo kernel word) }
@@ -93,7 +95,7 @@ pub extern "C" fn nospridda_kernel_undo(kernel: u8, word: u16) -> WordOutcome
     word_outcome_of(kernel::kernel_undo(kernel, word))
 }
 
-// Frame encode: the word of a payload at the marked phases.
+/// Frame encode: the word of a payload at the marked phases.
 #[unsafe(no_mangle)]
 pub extern "C" fn nospridda_frame_encode(
     plan: Plan,
@@ -103,11 +105,10 @@ pub extern "C" fn nospridda_frame_encode(
 ) -> Outcome
     ensures { outcome_with (frame_encode plan mask.now payload.now word.old) ≡ (result, word.new) }
 {
-    let a = frame::frame_encode(plan, mask, payload, word);
-    outcome_of(a)
+    outcome_of(frame::frame_encode(plan, mask, payload, word))
 }
 
-// Frame undo: the payload of a word.
+/// Frame undo: the payload of a word.
 #[unsafe(no_mangle)]
 pub extern "C" fn nospridda_frame_undo(
     plan: Plan,
@@ -117,11 +118,10 @@ pub extern "C" fn nospridda_frame_undo(
 ) -> Outcome
     ensures { outcome_with (frame_undo plan mask.now word.now payload.old) ≡ (result, payload.new) }
 {
-    let a = frame::frame_undo(plan, mask, word, payload);
-    outcome_of(a)
+    outcome_of(frame::frame_undo(plan, mask, word, payload))
 }
 
-// The length of the payload part of a caller's bytes.
+/// The length of the payload part of a caller's bytes.
 #[unsafe(no_mangle)]
 pub extern "C" fn nospridda_part_length(plan: Plan, mask: &[u8], length: usize) -> usize
     ensures { result ≡ part_length plan mask.now length }
@@ -129,16 +129,15 @@ pub extern "C" fn nospridda_part_length(plan: Plan, mask: &[u8], length: usize) 
     part::part_length(plan, mask, length)
 }
 
-// Information mask: the mask for p bytes of payload.
+/// Information mask: the mask for p bytes of payload.
 #[unsafe(no_mangle)]
 pub extern "C" fn nospridda_information_mask(p: usize, mask: &mut [u8]) -> Outcome
     ensures { outcome_with (information_mask p mask.old) ≡ (result, mask.new) }
 {
-    let a = order::information_mask(p, mask);
-    outcome_of(a)
+    outcome_of(order::information_mask(p, mask))
 }
 
-// Kernel follow: the scores of sixteen symbols over sixteen channel values.
+/// Kernel follow: the scores of sixteen symbols over sixteen channel values.
 #[unsafe(no_mangle)]
 pub extern "C" fn nospridda_kernel_follow(
     kernel: u8,
@@ -148,11 +147,10 @@ pub extern "C" fn nospridda_kernel_follow(
 ) -> Outcome
     ensures { outcome_with (kernel_follow kernel values.now symbols scores.old) ≡ (result, scores.new) }
 {
-    let a = follow::kernel_follow(kernel, values, symbols, scores);
-    outcome_of(a)
+    outcome_of(follow::kernel_follow(kernel, values, symbols, scores))
 }
 
-// Kernel follow by the Hadamard engine.
+/// Kernel follow by the Hadamard engine.
 #[unsafe(no_mangle)]
 pub extern "C" fn nospridda_kernel_follow_hadamard(
     kernel: u8,
@@ -162,11 +160,10 @@ pub extern "C" fn nospridda_kernel_follow_hadamard(
 ) -> Outcome
     ensures { outcome_with (kernel_follow kernel values.now symbols scores.old) ≡ (result, scores.new) }
 {
-    let a = follow::kernel_follow_hadamard(kernel, values, symbols, scores);
-    outcome_of(a)
+    outcome_of(follow::kernel_follow_hadamard(kernel, values, symbols, scores))
 }
 
-// Frame follow: the scores and penalties of a frame's symbols over its channel values.
+/// Frame follow: the scores and penalties of a frame's symbols over its channel values.
 #[unsafe(no_mangle)]
 pub extern "C" fn nospridda_frame_follow(
     plan: Plan,
@@ -177,11 +174,10 @@ pub extern "C" fn nospridda_frame_follow(
 ) -> Outcome
     ensures { outcome_with_two (frame_follow plan values.now symbols.now scores.old penalties.old) ≡ (result, scores.new, penalties.new) }
 {
-    let a = decode::frame_follow(plan, values, symbols, scores, penalties);
-    outcome_of(a)
+    outcome_of(decode::frame_follow(plan, values, symbols, scores, penalties))
 }
 
-// Frame decode: the scores and penalties of the decoder's own symbols, and its payload.
+/// Frame decode: the scores and penalties of the decoder's own symbols, and its payload.
 #[unsafe(no_mangle)]
 pub extern "C" fn nospridda_frame_decode(
     plan: Plan,
@@ -193,11 +189,10 @@ pub extern "C" fn nospridda_frame_decode(
 ) -> Outcome
     ensures { outcome_with_three (frame_decode plan values.now mask.now scores.old penalties.old payload.old) ≡ (result, scores.new, penalties.new, payload.new) }
 {
-    let a = decode::frame_decode(plan, values, mask, scores, penalties, payload);
-    outcome_of(a)
+    outcome_of(decode::frame_decode(plan, values, mask, scores, penalties, payload))
 }
 
-// Values from marks: the channel values of the amplitudes of 128 marks, under a scale.
+/// Values from marks: the channel values of the amplitudes of 128 marks, under a scale.
 #[unsafe(no_mangle)]
 pub extern "C" fn nospridda_values_from_marks(
     scale: f32,
@@ -207,11 +202,10 @@ pub extern "C" fn nospridda_values_from_marks(
 ) -> Outcome
     ensures { outcome_with (values_from_marks scale amplitudes.now blanked.now values.old) ≡ (result, values.new) }
 {
-    let a = quantiser::values_from_marks(scale, amplitudes, blanked, values);
-    outcome_of(a)
+    outcome_of(quantiser::values_from_marks(scale, amplitudes, blanked, values))
 }
 
-// List decoding: the payload and the penalty of the best agreeing path.
+/// List decoding: the payload and the penalty of the best agreeing path.
 #[unsafe(no_mangle)]
 pub extern "C" fn nospridda_list_decode(
     plan: Plan,
@@ -223,6 +217,5 @@ pub extern "C" fn nospridda_list_decode(
 ) -> PenaltyOutcome
     ensures { penalty_outcome_with_two (list_decode plan list values.now mask.now scratch.old payload.old) ≡ (result, scratch.new, payload.new) }
 {
-    let a = list_decode::list_decode(plan, list, values, mask, scratch, payload);
-    penalty_outcome_of(a)
+    penalty_outcome_of(list_decode::list_decode(plan, list, values, mask, scratch, payload))
 }

@@ -14,10 +14,11 @@ use Rattle.base.specs.Bit.{bit}
 use Rattle.base.proofs.Bool.{or-eq-false}
 use Rattle.bits.specs.Packed.{unpack}
 use Rattle.bits.proofs.Packed.{length-pack}
-use Rattle.answer.specs.Verdict.{Verdict, done, penalty, is_accepted, Check, settle, after}
+use Rattle.answer.specs.Verdict.{Verdict, done, penalty, refusal, is_accepted, Check, settle, after}
+use Rattle.answer.specs.declared.Refusal.{Refusal}
 use Rattle.answer.proofs.Settle.{None, none_of, settle-none, settle-stopped, after-refused}
 use Rattle.mask.specs.Mask.{marked, payload_bytes}
-use Rattle.mask.proofs.Mask.{bytes-eighth}
+use Rattle.mask.proofs.Mask.{bytes-eighth, bytes-marked}
 use Rattle.polar.specs.Code.{channel}
 use Rattle.list.specs.Best.{IsBestAt, BestFirst, begins, empty}
 use Rattle.list.proofs.Paths.{paths-long}
@@ -32,8 +33,8 @@ use Rattle.plan.specs.Pairs.{frame_code}
 use Rattle.path.specs.Path.{HasSymbols, path_at}
 use Rattle.path.specs.declared.Path.{Path}
 use Rattle.decode_checks.specs.Checks.{value_check}
+use Rattle.decode_checks.proofs.Refused.{refusal-refused}
 use Rattle.list_checks.specs.Checks.{list_decode_checks}
-use Rattle.list_checks.proofs.Marks.{marked-bytes}
 use Rattle.list_run.specs.Run.{frame_paths, ListRun}
 use Rattle.agreeing.specs.Agreeing.{payload_of, agrees_at}
 use Rattle.list_decode.specs.Exact.{BestAgreeing}
@@ -63,7 +64,7 @@ pub record ListAccepted (p : Plan) (L : ℕ) (values : List ℤ) (mask : List �
 
 pub list-passes : (p : Plan) (L : ℕ) (values : List ℤ) (mask : List ℕ) (scratch_room payload_room : ℕ) → None (list_decode_checks p L values mask scratch_room payload_room)
     → ListAccepted p L values mask scratch_room payload_room
-unfolding list_decode_checks
+unfolding list_decode_checks marked
 list-passes p L values mask scratch_room payload_room n =
     let layered : not (eqb p.layers 2) ≡ false = n.0 in
     let known : bad_kernels p ≡ false = n.1.0 in
@@ -76,7 +77,7 @@ list-passes p L values mask scratch_room payload_room n =
     let e = eqb-true (length values) 256 (not-false _ h.0) in
     let l = eqb-true (length mask) 32 (not-false _ h.1) in
     let g = n.1.1.1.1.0 in
-    let k : 8 * payload_bytes 32 mask ≡ marked mask = marked-bytes mask l g in
+    let k : 8 * payload_bytes 32 mask ≡ marked mask = bytes-marked 32 mask l g in
     let r = or-eq-false (ltb payload_room (marked mask / 8)) (ltb scratch_room 8192) room in
     record {
       two = t;
@@ -117,13 +118,15 @@ module _ (p : Plan) (L : ℕ) (values : List ℤ) (mask old_scratch old_payload 
   Decoded v scratch payload = list_decode p L values mask old_scratch old_payload ≡ (v, scratch, payload)
 
   -- A job that is refused by a check leaves its buffers.
-  pub list-refused : (v : Verdict) → v ≡ settle checks done → is_accepted v ≡ false → Decoded v old_scratch old_payload
+  pub list-refused : (e : Refusal) → refusal e ≡ settle checks done → Decoded (refusal e) old_scratch old_payload
   unfolding list_decode
-  list-refused v e r =
+  list-refused e s =
+      let v = refusal e in
+      let r = refusal-refused e in
       let zeros : List ℕ = replicate 8192 0 in
       let new = first_payload mask agreeing in
-      ap (λ (x : Verdict). (x, after (settle checks done) old_scratch zeros, after x old_payload new)) (settle-stopped checks done (verdict_of total agreeing) refl (ap is_accepted (sym e) ∙ r))
-      ∙ ap (λ (x : Verdict). (x, after x old_scratch zeros, after x old_payload new)) (sym e)
+      ap (λ (x : Verdict). (x, after (settle checks done) old_scratch zeros, after x old_payload new)) (settle-stopped checks done (verdict_of total agreeing) refl (ap is_accepted (sym s) ∙ r))
+      ∙ ap (λ (x : Verdict). (x, after x old_scratch zeros, after x old_payload new)) (sym s)
       ∙ ap₂ (λ (x y : List ℕ). (v, x, y)) (after-refused v old_scratch zeros r) (after-refused v old_payload new r)
 
   module _ (ok : is_accepted (settle checks done) ≡ true) where

@@ -1,6 +1,6 @@
 -- What the acceptance of the checks yields, and what the job leaves. Assumes nothing.
 use mathlib.Core.Path.{◌≡◌, sym, ap, ◌∙◌, subst}
-use mathlib.Core.Bool.{true, false, not}
+use mathlib.Core.Bool.{false, not}
 use mathlib.Core.List.{List, ◌++◌}
 use Prim.Native.Nat.{ℕ, ◌≤◌}
 use native.Mathlib.Omega.{arith}
@@ -14,7 +14,7 @@ use Rattle.base.specs.Bit.{tabulate}
 use Rattle.base.proofs.Bool.{or-eq-false}
 use Rattle.base.proofs.List.{length-tabulate}
 use Rattle.answer.specs.Verdict.{Verdict, done, is_accepted, settle, after}
-use Rattle.answer.proofs.Settle.{None, none_of, settle-none, after-refused}
+use Rattle.answer.proofs.Settle.{None, none_of}
 use Rattle.quantiser.specs.Marks.{first_not_finite, not_finite, value_at}
 use Rattle.quantiser.specs.Jobs.{marks_checks, values_from_marks}
 use Rattle.quantiser.proofs.Lowest.{lowest-le}
@@ -30,8 +30,8 @@ pub record Accepted (scale : Float) (amplitudes : List Float) (blanked : List �
 passes : (scale : Float) (amplitudes : List Float) (blanked : List ℕ) (room : ℕ) → None (marks_checks scale amplitudes blanked room) → Accepted scale amplitudes blanked room
 unfolding marks_checks first_not_finite
 passes scale amplitudes blanked room n =
-    let usable : not (positive scale) ≡ false = search (n.1.1.0, n.1.1.1.0) in
-    let sound : ltb (first_not_finite amplitudes blanked) 256 ≡ false = search (n.1.1.0, n.1.1.1.0) in
+    let usable : not (positive scale) ≡ false = n.1.1.0 in
+    let sound : ltb (first_not_finite amplitudes blanked) 256 ≡ false = n.1.1.1.0 in
     let e = or-eq-false _ _ n.0 in
     let f = ltb-false (first_not_finite amplitudes blanked) 256 sound in
     let g = lowest-le 256 (not_finite amplitudes blanked) in
@@ -43,24 +43,14 @@ passes scale amplitudes blanked room n =
       all-finite = omega arith;
     }
 
-module _ (scale : Float) (amplitudes : List Float) (blanked : List ℕ) (values : List ℤ) where
-  pub accepted : is_accepted (settle (marks_checks scale amplitudes blanked (length values)) done) ≡ true → Accepted scale amplitudes blanked (length values)
-  accepted ok = passes scale amplitudes blanked (length values) (none_of (marks_checks scale amplitudes blanked (length values)) done ok)
-
-  -- A refused job leaves its buffer.
-  pub refused-job : (v : Verdict) → v ≡ settle (marks_checks scale amplitudes blanked (length values)) done → is_accepted v ≡ false
-      → values_from_marks scale amplitudes blanked values ≡ (v, values)
-  unfolding values_from_marks
-  refused-job v e r =
-      let new = tabulate 256 (value_at scale amplitudes blanked) in
-      ap (λ (x : Verdict). (x, after x values new)) (sym e) ∙ ap (λ (l : List ℤ). (v, l)) (after-refused v values new r)
+module _ (scale : Float) (amplitudes : List Float) (blanked : List ℕ) (values : List ℤ) (ok : done ≡ settle (marks_checks scale amplitudes blanked (length values)) done) where
+  pub accepted : Accepted scale amplitudes blanked (length values)
+  accepted = passes scale amplitudes blanked (length values) (none_of (marks_checks scale amplitudes blanked (length values)) done (ap is_accepted (sym ok)))
 
   -- An accepted job leaves the values and what lies past them.
-  pub accepted-job : is_accepted (settle (marks_checks scale amplitudes blanked (length values)) done) ≡ true
-      → values_from_marks scale amplitudes blanked values ≡ (done, tabulate 256 (value_at scale amplitudes blanked) ++ drop 256 values)
+  pub accepted-job : values_from_marks scale amplitudes blanked values ≡ (done, tabulate 256 (value_at scale amplitudes blanked) ++ drop 256 values)
   unfolding values_from_marks
-  accepted-job ok =
-      let cs = marks_checks scale amplitudes blanked (length values) in
+  accepted-job =
       let new = tabulate 256 (value_at scale amplitudes blanked) in
-      ap (λ (x : Verdict). (x, after x values new)) (settle-none cs done (none_of cs done ok))
+      ap (λ (x : Verdict). (x, after x values new)) (sym ok)
       ∙ ap (λ n. (done, new ++ drop n values)) (length-tabulate 256 (value_at scale amplitudes blanked))

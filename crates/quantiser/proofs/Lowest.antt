@@ -66,8 +66,8 @@ lowest-cong (suc n) f g h =
     ap₂ (λ b l. elim b [ true ↦ 0 | false ↦ suc l ]) (h zero (omega arith))
     (lowest-cong n (λ i. f (suc i)) (λ i. g (suc i)) (λ i l. h (suc i) (omega arith)))
 
--- ---- a search by blocks of w: it has passed n of them, and the answer of the next is given
-module _ (w n side : ℕ) (f : ℕ → Bool) (h : (k : ℕ) → k < w * n → f k ≡ false) (e : side ≡ lowest w (λ j. f (w * n + j))) where
+-- ---- a search by blocks of w: it has passed n of them, and the place in the next is given
+module _ (w n side : ℕ) (f : ℕ → Bool) (h : (k : ℕ) → k < w * n → f k ≡ false) (e : lowest w (λ j. f (w * n + j)) ≡ side) where
   before : (k : ℕ) → k < w * n + side → f k ≡ false
   before k l = go (dec_lt k (w * n))
     where
@@ -78,9 +78,8 @@ module _ (w n side : ℕ) (f : ℕ → Bool) (h : (k : ℕ) → k < w * n → f 
           ap f q ∙ lowest-before w (λ j. f (w * n + j)) (k - w * n) (omega arith)
 
   -- It is found in this block,
-  pub found : (all : ℕ) → w * n + side < all → side < w → w * n + side ≡ lowest all f
-  found all la l =
-      sym (lowest-is all f (w * n + side) la before (ap (λ j. f (w * n + j)) e ∙ lowest-found w (λ j. f (w * n + j)) (omega arith)))
+  pub found : (all : ℕ) → side < w → w * n + side < all → (w * n + side < all) × (lowest all f ≡ w * n + side)
+  found all l la = (la, lowest-is all f (w * n + side) la before (ap (λ j. f (w * n + j)) (sym e) ∙ lowest-found w (λ j. f (w * n + j)) (omega arith)))
 
   -- or this block is passed too.
   pub passed : w ≤ side → (k : ℕ) → k < w * (n + 1) → f k ≡ false

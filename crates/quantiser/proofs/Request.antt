@@ -10,6 +10,7 @@ use lib.Ieee.{Float, nan}
 use lib.Ieee.Scale.{finite}
 use lib.IntN.{ℤ}
 use lib.ListN.{length, get_or, set, drop, length-append, length-drop}
+use denote.Enum.Declared.{tag_of}
 use mir.Syntax.{w8}
 use mir.Val.{SFits}
 use Rattle.base.specs.Bit.{bit, tabulate}
@@ -17,8 +18,11 @@ use Rattle.bits.specs.Packed.{unpack}
 use Rattle.base.proofs.List.{length-tabulate, filled, fill-next}
 use Rattle.rounding.specs.Rounding.{limited, is_negative, signed, nearest_limited}
 use Rattle.rounding.proofs.Rounded.{limited-le}
-use Rattle.quantiser.specs.Marks.{mark_at, offends, value_of, lowest, not_finite, first_not_finite, value_at, Sound}
+use Rattle.quantiser.specs.Marks.{mark_at, offends, value_of, lowest, not_finite, first_not_finite, value_at, Sound, place_in_mark}
 use Rattle.quantiser.specs.declared.Symbol.{Symbol}
+use Rattle.quantiser.specs.contracts.Side.{the_type}
+use Rattle.quantiser.specs.declared.Side.{Side}
+use Rattle.quantiser.specs.declared.Side.TheVariants.{I, Q}
 use Rattle.quantiser.specs.declared.Mark.{Mark}
 use Rattle.quantiser.specs.declared.Mark.TheVariants.{Heard, Blanked}
 use Rattle.quantiser.proofs.Lowest.{lowest-before, lowest-is, lowest-none, lowest-cong}
@@ -34,26 +38,35 @@ sound-finite x e = go (finite x) e
     go false e = absurd (false≢true (sym e))
 
 -- The lowest amplitude of a mark that offends.
-module _ (s : Symbol) where
-  pub i-offends : finite s.i ≡ false → 0 ≡ lowest 2 (offends (Heard s))
-  i-offends e = sym (lowest-is 2 (offends (Heard s)) 0 (omega arith) (λ j l. absurd (omega arith)) (ap not e))
+module _ (m : Mark) (s : Symbol) (is : m ≡ Heard s) where
+  pub i-offends : finite s.i ≡ false → lowest 2 (offends m) ≡ 0
+  i-offends e = rw is (lowest-is 2 (offends (Heard s)) 0 (omega arith) (λ j l. absurd (omega arith)) (ap not e))
 
-  pub q-offends : finite s.i ≡ true → finite s.q ≡ false → 1 ≡ lowest 2 (offends (Heard s))
-  q-offends e f = sym (lowest-is 2 (offends (Heard s)) 1 (omega arith) before (ap not f))
+  pub q-offends : finite s.i ≡ true → finite s.q ≡ false → lowest 2 (offends m) ≡ 1
+  q-offends e f = rw is (lowest-is 2 (offends (Heard s)) 1 (omega arith) before (ap not f))
     where
       before : (j : ℕ) → j < 1 → offends (Heard s) j ≡ false
       before zero l = ap not e
       before (suc j) l = absurd (omega arith)
 
-  pub none-offends : finite s.i ≡ true → finite s.q ≡ true → 2 ≡ lowest 2 (offends (Heard s))
-  none-offends e f = sym (lowest-none 2 (offends (Heard s)) none)
+  pub none-offends : finite s.i ≡ true → finite s.q ≡ true → lowest 2 (offends m) ≡ 2
+  none-offends e f = rw is (lowest-none 2 (offends (Heard s)) none)
     where
       none : (j : ℕ) → j < 2 → offends (Heard s) j ≡ false
       none zero l = ap not e
       none (suc j) l = ap not f
 
-pub blanked-passes : 2 ≡ lowest 2 (offends Blanked)
-blanked-passes = sym (lowest-none 2 (offends Blanked) (λ j l. refl))
+pub blanked-passes : (m : Mark) → m ≡ Blanked → lowest 2 (offends m) ≡ 2
+blanked-passes m is = rw is (lowest-none 2 (offends Blanked) (λ j l. refl))
+
+-- An amplitude's place in its mark, as the code has it.
+pub tag-of : (s : Side) → tag_of the_type s ≡ place_in_mark s
+tag-of I = refl
+tag-of Q = refl
+
+pub place-below : (s : Side) → place_in_mark s < 2
+place-below I = omega arith
+place-below Q = omega arith
 
 -- A mark by its bit of the mask.
 abbrev pub mark_by : Bool → Float → Float → Mark
@@ -86,10 +99,11 @@ module _ (amplitudes : List Float) (blanked : List ℕ) where
   -- ---- the search
 
   -- What is asked of one mark, as amplitudes of its byte.
-  pub mark-in-byte : (m j : ℕ) → lowest 2 (offends (mark_at amplitudes blanked (8 * m + j))) ≡ lowest 2 (λ i. not_finite amplitudes blanked (16 * m + (2 * j + i)))
-  mark-in-byte m j = lowest-cong 2 _ _ (λ i l. sym (offence-at (8 * m + j) i l) ∙ ap (not_finite amplitudes blanked) (place i))
+  pub mark-in-byte : (m j : ℕ) (k : Mark) → k ≡ mark_at amplitudes blanked (8 * m + j)
+      → lowest 2 (λ i. not_finite amplitudes blanked (16 * m + (2 * j + i))) ≡ lowest 2 (offends k)
+  mark-in-byte m j k e = rw e (lowest-cong 2 _ _ (λ i l. ap (not_finite amplitudes blanked) (place i) ∙ offence-at (8 * m + j) i l))
     where
-      place : (i : ℕ) → 2 * (8 * m + j) + i ≡ 16 * m + (2 * j + i)
+      place : (i : ℕ) → 16 * m + (2 * j + i) ≡ 2 * (8 * m + j) + i
       place i = omega arith
 
   -- Where none is found, every mark is sound.

@@ -1,5 +1,5 @@
 -- Received marks, and the soft values of them. Assumes nothing.
-use Rattle.std.specs.Prelude.{◌≡◌, Bool, true, false, not, List, ℕ, zero, suc, ◌+◌, ◌*◌, ◌/◌, ◌%◌, Float, ℤ, pos, get_or}
+use Rattle.std.specs.Prelude.{◌≡◌, Bool, true, false, not, List, ℕ, zero, suc, ◌+◌, ◌*◌, ◌/◌, ◌%◌, ◌<◌, Float, ℤ, pos, get_or}
 use Rattle.std.specs.Float.{nan}
 use Rattle.std.specs.Float.Ieee.Scale.{finite}
 use Rattle.base.specs.Bit.{bit}
@@ -8,6 +8,8 @@ use Rattle.soft_value.specs.Value.{soft_value}
 use Rattle.quantiser.specs.declared.Symbol.{Symbol}
 use Rattle.quantiser.specs.declared.Mark.{Mark}
 use Rattle.quantiser.specs.declared.Mark.TheVariants.{Heard, Blanked}
+use Rattle.quantiser.specs.declared.Side.{Side}
+use Rattle.quantiser.specs.declared.Side.TheVariants.{I, Q}
 use Rattle.quantiser.specs.declared.MarkValues.{MarkValues}
 
 -- Mark n: blanked where bit n of the packed blanking mask is 1, else heard, with the amplitudes 2n (I) and 2n + 1 (Q).
@@ -55,3 +57,8 @@ pair_of scale m = record { i = value_of scale m 0; q = value_of scale m 1 }
 
 abbrev pub Sound : Mark → Type 0
 Sound m = (offends m 0 ≡ false) × (offends m 1 ≡ false)
+
+-- The place of an amplitude in its mark.
+abbrev pub place_in_mark : Side → ℕ
+place_in_mark I = 0
+place_in_mark Q = 1

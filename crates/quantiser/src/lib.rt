@@ -1,48 +1,44 @@
 // Values from marks: received marks to soft values.
 #![tactic(auto)]
 
-ghost use Rattle.std.specs.Prelude.{◌≡◌, ◌++◌, ◌+◌, ◌*◌, ◌≤◌, ◌<◌, T, length, drop};
+ghost use Rattle.std.specs.Prelude.{◌≡◌, ◌++◌, ◌+◌, ◌*◌, ◌≤◌, ◌<◌, T, length, drop, MatchOption};
 ghost use Rattle.std.specs.Float.Ieee.Positive.{positive};
 ghost use Rattle.base.specs.Bit.{tabulate};
+ghost use Rattle.base.specs.Place.{FoundBelow};
 ghost use Rattle.answer.specs.Verdict.{verdict, done, settle};
-ghost use Rattle.quantiser.specs.Marks.{mark_at, offends, pair_of, lowest, not_finite, first_not_finite, Sound, value_at};
+ghost use Rattle.quantiser.specs.Marks.{mark_at, offends, pair_of, lowest, not_finite, first_not_finite, Sound, value_at, place_in_mark};
 ghost use Rattle.quantiser.specs.Jobs.{marks_checks, values_from_marks};
 
-use answer::Answer;
+use answer::Refusal;
 
-// A heard mark's I and Q amplitudes together: one symbol of the modulation, as the paper names the form. It is not one of
-// the coded symbols u of a kernel or a frame.
-#[derive(Clone, Copy)]
+/// A heard mark's I and Q amplitudes together: one symbol of the modulation, as the paper names the form. It is not one of
+/// the coded symbols u of a kernel or a frame.
+#[derive(Clone, Copy, Debug, PartialEq)]
 pub struct Symbol {
     pub i: f32,
     pub q: f32,
 }
 
-// A received mark: heard, with two amplitudes, or blanked, with none.
-#[derive(Clone, Copy)]
+/// A received mark: heard, with two amplitudes, or blanked, with none.
+#[derive(Clone, Copy, Debug, PartialEq)]
 pub enum Mark {
+    // No `Option<Symbol>`: blanked is what the paper says of a mark, and the definitions have the word too.
     Heard(Symbol),
     Blanked,
 }
 
-// The two soft values of a mark.
-#[derive(Clone, Copy)]
+/// One of a mark's two amplitudes.
+#[derive(Clone, Copy, Debug, PartialEq, Eq)]
+pub enum Side {
+    I,
+    Q,
+}
+
+/// The two soft values of a mark.
+#[derive(Clone, Copy, Debug, PartialEq, Eq)]
 pub struct MarkValues {
     pub i: i8,
     pub q: i8,
-}
-
-// Mark n of a request.
-fn mark_at(amplitudes: &[f32], blanked: &[u8], n: usize) -> Mark
-    requires { (length amplitudes.now ≡ 256) × (length blanked.now ≡ 16) × (n < 128) }
-    ensures { result ≡ mark_at amplitudes.now blanked.now n }
-{
-    if bits::bit(blanked, n) {
-        return Mark::Blanked;
-    }
-    let i = amplitudes[2 * n];
-    let q = amplitudes[2 * n + 1];
-    Mark::Heard(Symbol { i, q })
 }
 
 // The two soft values of a mark.
@@ -60,106 +56,128 @@ fn values_of(scale: f32, m: Mark) -> MarkValues
     }
 }
 
-// Which of a mark's amplitudes is the first that is not finite: 0 for I, 1 for Q, 2 for neither.
-fn offending(m: Mark) -> usize
-    ensures { result ≡ lowest 2 (offends m) }
+// The first of a mark's amplitudes that is not finite.
+fn offending(m: Mark) -> Option<Side>
+    ensures { MatchOption result (lowest 2 (offends m) ≡ 2) (λ s. lowest 2 (offends m) ≡ place_in_mark s) }
 {
     match m {
         Mark::Heard(s) => {
             if !soft_value::is_finite(s.i) {
-                return 0;
+                return Some(Side::I);
             }
-            if soft_value::is_finite(s.q) { 2 } else { 1 }
+            if soft_value::is_finite(s.q) {
+                None
+            } else {
+                Some(Side::Q)
+            }
         }
-        Mark::Blanked => 2,
+        Mark::Blanked => None,
     }
 }
 
-// The same of the eight marks of byte m of the mask: which of their sixteen amplitudes, or 16 for none.
-fn offending_in_byte(amplitudes: &[f32], blanked: &[u8], m: usize) -> usize
-    requires { (length amplitudes.now ≡ 256) × (length blanked.now ≡ 16) × (m < 16) }
-    ensures { result ≡ lowest 16 (λ i. not_finite amplitudes.now blanked.now (16 * m + i)) }
-{
-    let mut j: usize = 0;
-    while j < 8 {
-        let side = offending(mark_at(amplitudes, blanked, 8 * m + j));
-        if side < 2 {
-            return 2 * j + side;
-        }
-        j += 1;
-    }
-    16
+// The marks of a request of the right lengths: two amplitudes for each, and a bit that says whether it is blanked.
+#[derive(Clone, Copy)]
+struct Marks<'a> {
+    amplitudes: &'a [f32],
+    blanked: &'a [u8],
+    ghost lengths: { (length amplitudes.now ≡ 256) × (length blanked.now ≡ 16) },
 }
 
-// The lowest amplitude of a heard mark that is not finite, or 256.
-fn first_not_finite(amplitudes: &[f32], blanked: &[u8]) -> usize
-    requires { (length amplitudes.now ≡ 256) × (length blanked.now ≡ 16) }
-    ensures { result ≡ first_not_finite amplitudes.now blanked.now }
-{
-    let mut m: usize = 0;
-    while m < 16 {
-        let place = offending_in_byte(amplitudes, blanked, m);
-        if place < 16 {
-            return 16 * m + place;
+impl Marks<'_> {
+    // Mark n.
+    fn mark_at(&self, n: usize) -> Mark
+        requires { n < 128 }
+        ensures { result ≡ mark_at self.now.amplitudes.now self.now.blanked.now n }
+    {
+        if bits::bit(self.blanked, n) {
+            return Mark::Blanked;
         }
-        m += 1;
+        let i = self.amplitudes[2 * n];
+        let q = self.amplitudes[2 * n + 1];
+        Mark::Heard(Symbol { i, q })
     }
-    256
-}
 
-// Writes the soft values of all marks.
-fn store_values(scale: f32, amplitudes: &[f32], blanked: &[u8], values: &mut [i8])
-    requires t { T (positive scale) × (length amplitudes.now ≡ 256) × (length blanked.now ≡ 16) × (256 ≤ length values.old) }
-    requires blanked_value { first_not_finite amplitudes.now blanked.now ≡ 256 }
-    ensures { values.new ≡ tabulate 256 (value_at scale amplitudes.now blanked.now) ++ drop 256 values.old }
-{
-    let mut n: usize = 0;
-    while n < 128 {
-        let pair = values_of(scale, mark_at(amplitudes, blanked, n));
-        let i = pair.i;
-        let q = pair.q;
-        values[2 * n] = i;
-        values[2 * n + 1] = q;
-        n += 1;
+    // The first amplitude that is not finite of the eight marks of byte m of the mask: its index among their sixteen.
+    fn offending_in_byte(&self, m: usize) -> Option<usize>
+        requires { m < 16 }
+        ensures { FoundBelow 16 (lowest 16 (λ i. not_finite self.now.amplitudes.now self.now.blanked.now (16 * m + i))) result }
+    {
+        for j in 0..8 {
+            if let Some(side) = offending(self.mark_at(8 * m + j)) {
+                return Some(2 * j + side as usize);
+            }
+        }
+        None
+    }
+
+    // The lowest index of an amplitude of a heard mark that is not finite.
+    fn first_not_finite(&self) -> Option<usize>
+        ensures { FoundBelow 256 (first_not_finite self.now.amplitudes.now self.now.blanked.now) result }
+    {
+        for m in 0..16 {
+            if let Some(place) = self.offending_in_byte(m) {
+                return Some(16 * m + place);
+            }
+        }
+        None
+    }
+
+    // Writes the soft values of all marks.
+    fn store_values(&self, scale: f32, values: &mut [i8])
+        requires t { T (positive scale) × (256 ≤ length values.old) }
+        requires blanked_value { first_not_finite self.now.amplitudes.now self.now.blanked.now ≡ 256 }
+        ensures { values.new ≡ tabulate 256 (value_at scale self.now.amplitudes.now self.now.blanked.now) ++ drop 256 values.old }
+    {
+        for n in 0..128 {
+            let pair = values_of(scale, self.mark_at(n));
+            values[2 * n] = pair.i;
+            values[2 * n + 1] = pair.q;
+        }
     }
 }
 
 // The checks of values from marks, in checking order.
-fn marks_check(scale: f32, amplitudes: &[f32], blanked: &[u8], room: usize) -> Answer
+#[tactic(auto, unfolding(crate::specs::Jobs::marks_checks))]
+fn marks_check(scale: f32, amplitudes: &[f32], blanked: &[u8], room: usize) -> Result<(), Refusal>
     ensures { verdict result ≡ settle (marks_checks scale amplitudes.now blanked.now room) done }
 {
     if amplitudes.len() != 256 {
-        return Answer::WrongLength;
+        return Err(Refusal::WrongLength);
     }
     if blanked.len() != 16 {
-        return Answer::WrongLength;
+        return Err(Refusal::WrongLength);
     }
     if room < 256 {
-        return Answer::ShortOutput;
+        return Err(Refusal::ShortOutput);
     }
     if !soft_value::is_positive(scale) {
-        return Answer::BadScale;
+        return Err(Refusal::BadScale);
     }
-    let place = first_not_finite(amplitudes, blanked);
-    if place < 256 {
-        return Answer::NotFinite(place);
+    let marks = Marks {
+        amplitudes,
+        blanked,
+    };
+    if let Some(place) = marks.first_not_finite() {
+        return Err(Refusal::NotFinite(place));
     }
-    Answer::Done
+    Ok(())
 }
 
-// Values from marks: the scale of a frame and 128 received marks to 256 soft values.
+/// Values from marks: the scale of a frame and 128 received marks to 256 soft values.
+#[tactic(auto, unfolding(crate::specs::Jobs::values_from_marks))]
 pub fn values_from_marks(
     scale: f32,
     amplitudes: &[f32],
     blanked: &[u8],
     values: &mut [i8],
-) -> Answer
+) -> Result<(), Refusal>
     ensures { values_from_marks scale amplitudes.now blanked.now values.old ≡ (verdict result, values.new) }
 {
-    let answer = marks_check(scale, amplitudes, blanked, values.len());
-    if !answer::accepted(answer) {
-        return answer;
-    }
-    store_values(scale, amplitudes, blanked, values);
-    Answer::Done
+    marks_check(scale, amplitudes, blanked, values.len())?;
+    let marks = Marks {
+        amplitudes,
+        blanked,
+    };
+    marks.store_values(scale, values);
+    Ok(())
 }

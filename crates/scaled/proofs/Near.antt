@@ -13,7 +13,7 @@ use lib.ListN.{get_or}
 use Rattle.base.specs.Bit.{bit, tabulate}
 use Rattle.base.proofs.List.{length-tabulate, tabulate-at}
 use Rattle.bits.specs.Packed.{unpack}
-use Rattle.answer.specs.Verdict.{done, is_accepted}
+use Rattle.answer.specs.Verdict.{done}
 use Rattle.answer.proofs.Written.{after-at}
 use Rattle.soft_value.specs.Value.{soft_value}
 use Rattle.rounding.specs.Bound.{NearProduct}
@@ -63,7 +63,7 @@ pub values-near : (scale : Float) (amplitudes : List Float) (blanked : List ℕ)
     → NearProduct scale (get_or amplitudes k nan) (get_or (values_from_marks scale amplitudes blanked out).1 k (pos 0))
 unfolding values_from_marks first_not_finite
 values-near scale amplitudes blanked out a k l heard =
-    let p = accepted scale amplitudes blanked out (ap is_accepted a) in
+    let p = accepted scale amplitudes blanked out (sym a) in
     let x = get_or amplitudes k nan in
     let fine = heard-finite amplitudes blanked k heard (lowest-before 256 (not_finite amplitudes blanked) k (omega (arith, p.all-finite))) in
     subst (λ (v : ℤ). NearProduct scale x v) (sym (values-soft scale amplitudes blanked out a k l heard)) (product-near scale x p.scale-positive fine)

@@ -26,14 +26,7 @@ const GREATEST: u32 = 0x42fe0000;
 fn limited_pattern(pattern: u32) -> u32
     ensures { result ≡ min 0x42fe0000 (max 0x3e800000 pattern) }
 {
-    if pattern < LEAST {
-        return LEAST;
-    }
-    if pattern < GREATEST {
-        pattern
-    } else {
-        GREATEST
-    }
+    pattern.max(LEAST).min(GREATEST)
 }
 
 // The limited size of the number whose pattern, without its sign, is given.
@@ -51,12 +44,12 @@ fn nearest_limited(p: f32) -> i8
     requires { T (not (is_nan p)) }
     ensures { result ≡ nearest_limited p }
 {
-    let pattern = f32::to_bits(p);
+    let pattern = p.to_bits();
     let size = magnitude(pattern % 2147483648) as i8;
-    if pattern < 2147483648 { size } else { 0 - size }
+    if pattern < 2147483648 { size } else { -size }
 }
 
-// The soft value of an amplitude.
+/// The soft value of an amplitude.
 pub fn quantise(scale: f32, x: f32) -> i8
     requires { T (positive scale) × T (finite x) }
     ensures { result ≡ soft_value scale x }
@@ -64,16 +57,17 @@ pub fn quantise(scale: f32, x: f32) -> i8
     nearest_limited(x * scale)
 }
 
-// Whether a number is neither a NaN nor infinite.
+/// Whether a number is neither a NaN nor infinite.
 pub fn is_finite(x: f32) -> bool
     ensures { result ≡ finite x }
 {
-    if x < 1.0 / 0.0 { -1.0 / 0.0 < x } else { false }
+    // The contract has the definitions' word for it, which std's has not.
+    x.is_finite()
 }
 
-// Whether a number is finite and above zero.
+/// Whether a number is finite and above zero.
 pub fn is_positive(x: f32) -> bool
     ensures { result ≡ positive x }
 {
-    if is_finite(x) { 0.0 < x } else { false }
+    x.is_finite() && 0.0 < x
 }

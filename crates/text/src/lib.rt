@@ -13,26 +13,22 @@ fn digit(d: u8) -> u8
     if d < 10 { 48 + d } else { 87 + d }
 }
 
-// Puts bytes at an index, and answers where they end.
+/// Puts bytes at an index, and answers where they end.
 pub fn put(bytes: &[u8], at: usize, out: &mut [u8]) -> usize
     requires { at + length bytes.now ≤ length out.old }
     ensures { Put bytes.now at result out.old out.new }
 {
-    let mut end = at;
-    let mut i: usize = 0;
-    while i < bytes.len() {
-        out[end] = bytes[i];
-        end += 1;
-        i += 1;
-    }
+    let end = at + bytes.len();
+    out[at..end].copy_from_slice(bytes);
     end
 }
 
-// Puts a number in decimal.
+/// Puts a number in decimal.
 pub fn put_decimal(n: u64, at: usize, out: &mut [u8]) -> usize
     requires { at + length (decimal n) ≤ length out.old }
     ensures { Put (decimal n) at result out.old out.new }
 {
+    // No `print!` here or below: the bytes are proved, and printing promises none.
     if n < 10 {
         out[at] = digit(n as u8);
         return at + 1;
@@ -42,18 +38,16 @@ pub fn put_decimal(n: u64, at: usize, out: &mut [u8]) -> usize
     end + 1
 }
 
-// Puts bytes in small hexadecimal.
+/// Puts bytes in small hexadecimal.
 pub fn put_hexadecimal(bytes: &[u8], at: usize, out: &mut [u8]) -> usize
     requires { at + length (hexadecimal bytes.now) ≤ length out.old }
     ensures { Put (hexadecimal bytes.now) at result out.old out.new }
 {
     let mut end = at;
-    let mut i: usize = 0;
-    while i < bytes.len() {
-        out[end] = digit(bytes[i] / 16);
-        out[end + 1] = digit(bytes[i] % 16);
+    for b in bytes {
+        out[end] = digit(*b / 16);
+        out[end + 1] = digit(*b % 16);
         end += 2;
-        i += 1;
     }
     end
 }

@@ -12,18 +12,17 @@ use Rattle.line.proofs.values.Goals as goal
 use mir.Syntax.{w8}
 
 pub loop-i-init : goal.loop-i-init
-loop-i-init c = (search rules, refl, λ j l. absurd (omega arith))
+loop-i-init c = (refl, λ j l. absurd (omega arith))
 
 pub loop-i-preserved : goal.loop-i-preserved
 loop-i-preserved c =
     let bytes = c.args.bytes.now in
     let l = c.loop-i in (
       search rules,
-      search rules,
-      each_next (λ j x. x ≡ signed_byte (get_or bytes j 0)) l.out l.i (pos 0) _ (search rules) l.invariant.2 (to_z-of_z {w = w8} (record { sfits = c.value.type_inv }) ∙ c.value.ensures),
+      each_next (λ j x. x ≡ signed_byte (get_or bytes j 0)) l.out l.i (pos 0) _ (search rules) l.invariant.1 (to_z-of_z {w = w8} (record { sfits = c.value.type_inv }) ∙ c.value.ensures),
     )
 
 pub returns : goal.returns
 returns c =
     let l = c.loop-i in
-    values-are c.args.bytes.now l.out c.requires l.invariant.1 (λ j h. l.invariant.2 j (omega arith))
+    values-are c.args.bytes.now l.out c.requires l.invariant.0 (λ j h. l.invariant.1 j (omega arith))

@@ -1,22 +1,18 @@
 -- `quantiser::offending` meets its contract, mark by mark. Assumes nothing.
-use mathlib.Core.Path.{sym, ap, ◌∙◌}
-use Rattle.quantiser.specs.Marks.{offends, lowest}
+use mathlib.Core.Path.{sym, ◌∙◌}
 use Rattle.quantiser.proofs.Request.{i-offends, q-offends, none-offends, blanked-passes}
 use Rattle.quantiser.proofs.offending.Goals as goal
 
 pub returns-then-not-is_finite : goal.returns-then-not-is_finite
-returns-then-not-is_finite c =
-    i-offends c.in-Heard.s (sym c.is_finite.ensures ∙ c.if-not-is_finite.true) ∙ sym (ap (λ m. lowest 2 (offends m)) c.in-Heard.is)
+returns-then-not-is_finite c = i-offends _ _ c.in-Heard.is (sym c.is_finite.ensures ∙ c.if-not-is_finite.true)
 
 pub returns-then-is_finite : goal.returns-then-is_finite
 returns-then-is_finite c =
-    none-offends c.in-Heard.s (sym c.is_finite.ensures ∙ c.if-not-is_finite.false) (sym c.is_finite-in-Heard.ensures ∙ c.if-is_finite.true)
-    ∙ sym (ap (λ m. lowest 2 (offends m)) c.in-Heard.is)
+    none-offends _ _ c.in-Heard.is (sym c.is_finite.ensures ∙ c.if-not-is_finite.false) (sym c.is_finite-in-Heard.ensures ∙ c.if-is_finite.true)
 
 pub returns-else-is_finite : goal.returns-else-is_finite
 returns-else-is_finite c =
-    q-offends c.in-Heard.s (sym c.is_finite.ensures ∙ c.if-not-is_finite.false) (sym c.is_finite-in-Heard.ensures ∙ c.if-is_finite.false)
-    ∙ sym (ap (λ m. lowest 2 (offends m)) c.in-Heard.is)
+    q-offends _ _ c.in-Heard.is (sym c.is_finite.ensures ∙ c.if-not-is_finite.false) (sym c.is_finite-in-Heard.ensures ∙ c.if-is_finite.false)
 
 pub returns-in-Blanked : goal.returns-in-Blanked
-returns-in-Blanked c = blanked-passes ∙ sym (ap (λ m. lowest 2 (offends m)) c.in-Blanked.is)
+returns-in-Blanked c = blanked-passes _ c.in-Blanked.is

@@ -4,7 +4,6 @@ use Rattle.rounding.specs.Rounding.{rounded, limited}
 use Rattle.rounding.proofs.Patterns.{limited-mid, limited-within, shifted, shifted-le}
 use native.Mathlib.Omega.{arith}
 use lib.Ieee.{binary32, of_bits}
-use borrow.Author.Rules.{rules}
 use Rattle.soft_value.proofs.magnitude.Goals as goal
 
 pub nearest-requires : goal.nearest-requires

@@ -1,7 +1,6 @@
 -- `soft_value::nearest` meets its contract. Assumes nothing.
 use native.Mathlib.Omega.{arith}
 use Rattle.rounding.proofs.Rounded.{rounded-sum}
-use borrow.Author.Rules.{rules}
 use Rattle.soft_value.proofs.nearest.Goals as goal
 
 pub returns : goal.returns

@@ -11,7 +11,6 @@ use lib.Ieee.Bits.{is_true, is_false}
 use mir.Syntax.{w8}
 use mir.Val.{SFits, to_z}
 use mir.Facts.{to_z_pos, to_z-of_z}
-use borrow.Author.Rules.{rules}
 use Rattle.rounding.specs.Rounding.{limited, signed, is_negative, nearest_limited}
 use Rattle.rounding.proofs.Patterns.{limited-bits, pattern-le, negative-bits}
 use Rattle.soft_value.proofs.nearest_limited.Goals as goal

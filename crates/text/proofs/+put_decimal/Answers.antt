@@ -1,18 +1,14 @@
 -- The cycle of calls of `text::put_decimal` meets its contract: the digits of the tenth, then the last one; the number falls. Assumes nothing.
 use mathlib.Core.Path.{ap, subst}
-use Prim.Native.Nat.{ℕ, ◌+◌, ◌/◌, ◌≤◌, ◌<◌}
+use Prim.Native.Nat.{◌+◌, ◌/◌, ◌≤◌, ◌<◌}
 use native.Mathlib.Omega.{arith}
 use lib.ListN.{length}
 use Rattle.text.specs.Text.{decimal}
 use Rattle.text.proofs.Text.{decimal-one, length_more, put_one, room-last, put_last}
-use borrow.Author.Rules.{rules}
 use Rattle.text.proofs.+put_decimal.Goals as goal
 
 pub bounds-out-at : goal.bounds-out-at
 bounds-out-at t c = omega (arith, ap length (decimal-one c.args.n c.if-n-lt10.true), c.requires)
-
-pub overflow_add-result : goal.overflow_add-result
-overflow_add-result t c = let h = ap length (decimal-one c.args.n c.if-n-lt10.true) in search rules
 
 pub returns-then-n-lt10 : goal.returns-then-n-lt10
 returns-then-n-lt10 t c = let a = c.args in put_one a.n a.at c.digit.result a.out.now c.if-n-lt10.true c.requires c.digit.ensures
@@ -31,13 +27,6 @@ bounds-out-end t c =
     let a = c.args in
     let r = c.put_decimal-end in
     (room-last a.n a.at r.result a.out.now r.new.out c.if-n-lt10.false c.requires r.ensures).1
-
-pub overflow_add-result-2 : goal.overflow_add-result-2
-overflow_add-result-2 t c =
-    let a = c.args in
-    let r = c.put_decimal-end in
-    let h = (room-last a.n a.at r.result a.out.now r.new.out c.if-n-lt10.false c.requires r.ensures).0 in
-    search rules
 
 pub returns : goal.returns
 returns t c =

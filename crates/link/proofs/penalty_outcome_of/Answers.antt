@@ -1,5 +1,0 @@
--- `link::penalty_outcome_of` meets its contract: number, place and penalty are the answer's. Assumes nothing.
-use Rattle.link.proofs.penalty_outcome_of.Goals as goal
-
-pub returns : goal.returns
-returns c = simp (c.outcome_of-o.ensures, c.penalty-penalty.ensures)
