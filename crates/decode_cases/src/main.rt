@@ -6,7 +6,7 @@
 
 ghost use Rattle.std.specs.Prelude.{◌≤◌};
 
-use answer::Answer;
+use answer::Refusal;
 use plan::Plan;
 use report::rows;
 use std::io;
@@ -24,16 +24,6 @@ const PUT: [[u64; 8]; 6] = [
     [511, 255, 513, 0, 513, 0, 513, 0],
     [1, 255, 513, 0, 513, 0, 513, 0],
 ];
-
-// Whether all scores from an index on are -999.
-fn scores_kept(scores: &[i32], from: usize) -> bool {
-    scores.iter().skip(from).all(|x| *x == -999)
-}
-
-// Whether all penalties from an index on are 999.
-fn penalties_kept(penalties: &[u32], from: usize) -> bool {
-    penalties.iter().skip(from).all(|x| *x == 999)
-}
 
 // Values: one, and another at two places.
 fn values_of(row: [u64; 32]) -> [i8; 4098] {
@@ -57,6 +47,7 @@ fn put_of(kind: u64) -> [u64; 8] {
     PUT[rows::at_most(5, kind)]
 }
 
+// As in `list_cases`: a crate for both would stand on `plan` and be longer.
 fn plan_of(row: [u64; 32]) -> Plan {
     Plan {
         layers: rows::byte(row[0]),
@@ -103,7 +94,7 @@ fn say_ends(
 fn say(
     rt: &impl Print,
     line: &[u8],
-    a: Answer,
+    a: Result<(), Refusal>,
     scores: &[i32; 4100],
     penalties: &[u32; 4100],
     n: usize,
@@ -111,15 +102,15 @@ fn say(
     requires low { 8 ≤ n }
     requires high { n ≤ 4096 }
 {
-    report::say_answer(rt, line, a)?;
+    report::say_answer(rt, line, a.err())?;
     let mut from = 0;
-    if answer::accepted(a) {
+    if a.is_ok() {
         say_ends(rt, scores, penalties, n)?;
         from = n;
     }
     report::say_kept(
         rt,
-        scores_kept(scores, from) && penalties_kept(penalties, from),
+        report::all_are(&scores[from..], -999) && report::all_are(&penalties[from..], 999),
     )
 }
 
@@ -133,7 +124,7 @@ fn say_payload(rt: &impl Print, line: &[u8], payload: &[u8]) -> io::Result<()> {
     Ok(())
 }
 
-// The job, and what it answers.
+// The job, and what it answers. Its parameters are those of the job.
 fn answered(
     line: &[u8],
     plan: Plan,
@@ -142,7 +133,7 @@ fn answered(
     scores: &mut [i32],
     penalties: &mut [u32],
     payload: &mut [u8],
-) -> Answer {
+) -> Result<(), Refusal> {
     if rows::first(line) == b'd' {
         decode::frame_decode(plan, values, bytes, scores, penalties, payload)
     } else {
@@ -166,8 +157,8 @@ fn lent(
         plan_of(row),
         values,
         bytes,
-        rows::room_i32(&mut scores, row[12]),
-        rows::room_u32(&mut penalties, row[13]),
+        rows::room(&mut scores, row[12]),
+        rows::room(&mut penalties, row[13]),
         rows::room(&mut payload, row[14]),
     );
     say(rt, line, a, &scores, &penalties, count_of(row[0]))?;
@@ -182,24 +173,9 @@ fn run(rt: &impl Print, line: &[u8]) -> io::Result<()> {
         rt,
         line,
         row,
-        rows::front_values(&values, row[4]),
+        rows::front(&values, row[4]),
         rows::front(&bytes, row[9]),
     )
-}
-
-fn all_cases(rt: &impl Print, text: &[u8]) -> io::Result<()> {
-    let mut at: usize = 0;
-    while at < text.len() {
-        let end = rows::line_end(text, at);
-        run(rt, &text[at..end])?;
-        at = end + 1;
-    }
-    Ok(())
-}
-
-// Whether two times sixteen scores are the same.
-fn same(a: [i32; 16], b: [i32; 16]) -> bool {
-    a == b
 }
 
 // Sixteen values, for a frame and for a kernel.
@@ -221,9 +197,9 @@ fn one_layer(rt: &impl Print, kernel: u8) -> io::Result<()> {
     let mut scores = [0i32; 16];
     let mut penalties = [0u32; 16];
     let mut other = [1i32; 16];
-    decode::frame_follow(plan, &FRAME, &symbols, &mut scores, &mut penalties);
-    follow::kernel_follow(kernel, &KERNEL, 0xb279, &mut other);
-    if same(scores, other) {
+    let _ = decode::frame_follow(plan, &FRAME, &symbols, &mut scores, &mut penalties);
+    let _ = follow::kernel_follow(kernel, &KERNEL, 0xb279, &mut other);
+    if scores == other {
         println!(rt; "one layer: the kernel's scores")
     } else {
         println!(rt; "one layer: others")
@@ -233,7 +209,7 @@ fn one_layer(rt: &impl Print, kernel: u8) -> io::Result<()> {
 fn main(rt: HostRuntime) -> io::Result<()> {
     let mut text = [0u8; rows::ROOM];
     let n = rows::read_full(&mut rt.reader(), &mut text);
-    all_cases(&rt, &text[..n])?;
+    rows::each_line(&text[..n], |line| run(&rt, line))?;
     one_layer(&rt, 0)?;
     one_layer(&rt, 1)?;
     one_layer(&rt, 2)

@@ -3,7 +3,7 @@
 // values.
 #![tactic(auto)]
 
-use answer::Answer;
+use answer::Refusal;
 use report::rows;
 use std::{array, io};
 
@@ -15,26 +15,20 @@ fn before() -> [i32; 20] {
     ]
 }
 
-// Whether two buffers are of one length and agree from an index on.
-fn same_from(a: &[i32], b: &[i32], from: usize) -> bool {
-    a.len() == b.len() && a.iter().zip(b).skip(from).all(|(x, y)| x == y)
-}
-
 // Whether the engines answer alike and leave the same.
 fn say_engines(
     rt: &impl Print,
-    a: Answer,
-    b: Answer,
-    scores: &[i32],
-    second: &[i32],
+    a: Result<(), Refusal>,
+    b: Result<(), Refusal>,
+    same_scores: bool,
 ) -> io::Result<()> {
-    if answer::number(a) != answer::number(b) {
+    if a.map_err(|e| e.number()) != b.map_err(|e| e.number()) {
         print!(rt; " (the engines answer differently)")?;
     }
-    if answer::place(a) != answer::place(b) {
+    if a.map_err(|e| e.place()) != b.map_err(|e| e.place()) {
         print!(rt; " (the engines name different places)")?;
     }
-    if !same_from(scores, second, 0) {
+    if !same_scores {
         print!(rt; " (the engines leave different scores)")?;
     }
     Ok(())
@@ -49,23 +43,16 @@ fn say_scores(rt: &impl Print, scores: [i32; 20]) -> io::Result<()> {
 }
 
 // Accepted the scores, and whether what lies past them stays; refused whether the buffer was kept.
-fn say_buffer(rt: &impl Print, a: Answer, scores: [i32; 20]) -> io::Result<()> {
-    let mut from = 0;
-    if answer::accepted(a) {
+fn say_buffer(rt: &impl Print, a: Result<(), Refusal>, scores: [i32; 20]) -> io::Result<()> {
+    if a.is_ok() {
         say_scores(rt, scores)?;
-        from = 16;
+        return report::say_kept(rt, scores[16..] == before()[16..]);
     }
-    report::say_kept(rt, same_from(&scores, &before(), from))
+    report::say_kept(rt, scores == before())
 }
 
 fn values_of(row: [u64; 32]) -> [i32; 17] {
     array::from_fn(|i| rows::signed(row[4 + i]))
-}
-
-// The first n values, or all where there are fewer.
-fn front(s: &[i32], n: u64) -> &[i32] {
-    let k = rows::at_most(s.len(), n);
-    &s[..k]
 }
 
 fn symbols_of(x: u64) -> u16 {
@@ -78,36 +65,26 @@ fn followed(rt: &impl Print, line: &[u8], row: [u64; 32], values: &[i32]) -> io:
     let mut second = before();
     let kernel = rows::byte(row[0]);
     let symbols = symbols_of(row[3]);
-    let a = follow::kernel_follow(kernel, values, symbols, rows::room_i32(&mut scores, row[2]));
+    let a = follow::kernel_follow(kernel, values, symbols, rows::room(&mut scores, row[2]));
     let b = follow::kernel_follow_hadamard(
         kernel,
         values,
         symbols,
-        rows::room_i32(&mut second, row[2]),
+        rows::room(&mut second, row[2]),
     );
-    report::say_answer(rt, line, a)?;
-    say_engines(rt, a, b, &scores, &second)?;
+    report::say_answer(rt, line, a.err())?;
+    say_engines(rt, a, b, scores == second)?;
     say_buffer(rt, a, scores)
 }
 
 fn run(rt: &impl Print, line: &[u8]) -> io::Result<()> {
     let row = rows::numbers(line);
     let values = values_of(row);
-    followed(rt, line, row, front(&values, row[1]))
-}
-
-fn all_cases(rt: &impl Print, text: &[u8]) -> io::Result<()> {
-    let mut at: usize = 0;
-    while at < text.len() {
-        let end = rows::line_end(text, at);
-        run(rt, &text[at..end])?;
-        at = end + 1;
-    }
-    Ok(())
+    followed(rt, line, row, rows::front(&values, row[1]))
 }
 
 fn main(rt: HostRuntime) -> io::Result<()> {
     let mut text = [0u8; rows::ROOM];
     let n = rows::read_full(&mut rt.reader(), &mut text);
-    all_cases(&rt, &text[..n])
+    rows::each_line(&text[..n], |line| run(&rt, line))
 }

@@ -6,7 +6,7 @@
 // number of bytes and the room.
 #![tactic(auto)]
 
-use answer::Answer;
+use answer::Refusal;
 use plan::Plan;
 use report::rows;
 use std::{array, io};
@@ -82,7 +82,7 @@ fn encoded(plan: Plan, symbols: [u8; 513]) -> [u8; 513] {
     let all = [255u8; 513];
     let mut word = [0u8; 513];
     let n = plan::bytes(plan) as u64;
-    frame::frame_encode(
+    let _ = frame::frame_encode(
         plan,
         rows::front(&all, n),
         rows::front(&symbols, n),
@@ -100,14 +100,20 @@ fn word_of(c: [u64; 32]) -> [u8; 513] {
 }
 
 // An answer, and the room where it is accepted, or whether the buffer was kept.
-fn say(rt: &impl Print, line: &[u8], a: Answer, buffer: [u8; 516], room: u64) -> io::Result<()> {
-    report::say_answer(rt, line, a)?;
-    if answer::accepted(a) {
+fn say(
+    rt: &impl Print,
+    line: &[u8],
+    a: Result<(), Refusal>,
+    buffer: [u8; 516],
+    room: u64,
+) -> io::Result<()> {
+    report::say_answer(rt, line, a.err())?;
+    if a.is_ok() {
         print!(rt; ", ")?;
         report::say_bytes(rt, rows::front(&buffer, room))?;
         println!(rt)
     } else {
-        report::say_kept(rt, report::same_from(&buffer, &[0x5a; 516], 0))
+        report::say_kept(rt, report::all_are(&buffer, 0x5a))
     }
 }
 
@@ -169,8 +175,8 @@ fn frame_case(rt: &impl Print, line: &[u8], c: [u64; 32]) -> io::Result<()> {
 fn kernel_case(rt: &impl Print, line: &[u8], c: [u64; 32]) -> io::Result<()> {
     let kernel = rows::byte(c[0]);
     let word = (c[1] % 65536) as u16;
-    let encoded = answer::word(kernel::kernel_encode(kernel, word));
-    let undone = answer::word(kernel::kernel_undo(kernel, word));
+    let encoded = kernel::kernel_encode(kernel, word).unwrap_or(0);
+    let undone = kernel::kernel_undo(kernel, word).unwrap_or(0);
     say_two(rt, line, u64::from(encoded), u64::from(undone))?;
     println!(rt)
 }
@@ -191,18 +197,8 @@ fn run(rt: &impl Print, line: &[u8]) -> io::Result<()> {
     }
 }
 
-fn all_cases(rt: &impl Print, text: &[u8]) -> io::Result<()> {
-    let mut at: usize = 0;
-    while at < text.len() {
-        let end = rows::line_end(text, at);
-        run(rt, &text[at..end])?;
-        at = end + 1;
-    }
-    Ok(())
-}
-
 fn main(rt: HostRuntime) -> io::Result<()> {
     let mut text = [0u8; rows::ROOM];
     let n = rows::read_full(&mut rt.reader(), &mut text);
-    all_cases(&rt, &text[..n])
+    rows::each_line(&text[..n], |line| run(&rt, line))
 }

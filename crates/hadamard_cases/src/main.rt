@@ -32,7 +32,7 @@ fn say_four(rt: &impl Print, row: [i32; 4]) -> io::Result<()> {
 
 // The transform of eight values within the limit.
 fn eight(rt: &impl Print, label: &str, values: [i32; 8]) -> io::Result<()> {
-    if folds::first_outside(&values, 32767) < 8 {
+    if let Some(_) = folds::first_outside(&values, 32767) {
         return println!(rt; "{label}: a value out of range");
     }
     let rows = hadamard::hadamard8(&values);
@@ -44,7 +44,7 @@ fn eight(rt: &impl Print, label: &str, values: [i32; 8]) -> io::Result<()> {
 
 // The transform of four.
 fn four(rt: &impl Print, label: &str, values: [i32; 4]) -> io::Result<()> {
-    if folds::first_outside(&values, 32767) < 4 {
+    if let Some(_) = folds::first_outside(&values, 32767) {
         return println!(rt; "{label}: a value out of range");
     }
     let row = hadamard::hadamard4(&values);

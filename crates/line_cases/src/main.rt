@@ -13,18 +13,13 @@ const MASK_1: [u8; 32] = [
     0x37,
 ];
 
-// Whether all bytes from an index on are 5a.
-fn kept(out: &[u8; 74], from: usize) -> bool {
-    out.iter().skip(from).all(|x| *x == 0x5a)
-}
-
 // A label, how many bytes are printed, whether what lies past them stays, and the bytes.
 fn say(rt: &impl Print, label: &[u8], input: &[u8]) -> io::Result<()> {
     let mut out = [0x5au8; 74];
     let k = line::line(input, &mut out);
     rt.write_all(label)?;
     print!(rt; ": {k}")?;
-    report::say_kept(rt, kept(&out, k))?;
+    report::say_kept(rt, report::all_are(&out[k..], 0x5a))?;
     rt.write_all(&out[..k])
 }
 
@@ -52,18 +47,8 @@ fn run(rt: &impl Print, line: &[u8]) -> io::Result<()> {
     say(rt, line, rows::front(&input, c[0]))
 }
 
-fn all_cases(rt: &impl Print, text: &[u8]) -> io::Result<()> {
-    let mut at: usize = 0;
-    while at < text.len() {
-        let end = rows::line_end(text, at);
-        run(rt, &text[at..end])?;
-        at = end + 1;
-    }
-    Ok(())
-}
-
 fn main(rt: HostRuntime) -> io::Result<()> {
     let mut text = [0u8; rows::ROOM];
     let n = rows::read_full(&mut rt.reader(), &mut text);
-    all_cases(&rt, &text[..n])
+    rows::each_line(&text[..n], |line| run(&rt, line))
 }

@@ -6,7 +6,7 @@
 
 ghost use Rattle.std.specs.Prelude.{◌≡◌, ◌<◌, length};
 
-use answer::Answer;
+use answer::Refusal;
 use plan::Plan;
 use report::rows;
 use std::io;
@@ -130,18 +130,11 @@ const LOW: [i8; 16] = [
     -31, -9, -20, -3, -44, -12, -27, -6, -52, -16, -23, -1, -37, -5, -63, -14,
 ];
 
-// Byte j of eight, the highest first.
-fn byte_of(w: u64, j: usize) -> u8
-    requires { j < 8 }
-{
-    ((w >> (56 - 8 * j)) % 256) as u8
-}
-
 // The bytes of a word, and one more.
 fn bytes_of(words: [u64; 4]) -> [u8; 33] {
     let mut out = [0u8; 33];
-    for i in 0..32 {
-        out[i] = byte_of(words[i / 8], i % 8);
+    for (i, w) in words.iter().enumerate() {
+        out[8 * i..8 * i + 8].copy_from_slice(&w.to_be_bytes());
     }
     out
 }
@@ -197,9 +190,15 @@ fn say_scratch(rt: &impl Print, scratch: &[u8]) -> io::Result<()> {
 }
 
 // An answer with its penalty, and the buffers after it.
-fn say(rt: &impl Print, label: &[u8], a: Answer, scratch: &[u8], payload: &[u8]) -> io::Result<()> {
-    report::say_answer(rt, label, a)?;
-    say_penalty(rt, answer::penalty(a))?;
+fn say(
+    rt: &impl Print,
+    label: &[u8],
+    a: Result<u32, Refusal>,
+    scratch: &[u8],
+    payload: &[u8],
+) -> io::Result<()> {
+    report::say_answer(rt, label, a.err())?;
+    say_penalty(rt, a.unwrap_or(0))?;
     say_scratch(rt, scratch)?;
     print!(rt; "\n  payload ")?;
     report::say_bytes(rt, payload)?;
@@ -222,15 +221,16 @@ fn beside(
     let mut penalties = [0u32; 256];
     let mut other = [0x5au8; 36];
     let b = decode::frame_decode(plan, values, mask, &mut scores, &mut penalties, &mut other);
-    report::say_answer(rt, b"  frame decode", b)?;
+    report::say_answer(rt, b"  frame decode", b.err())?;
     say_penalty(rt, penalties[255])?;
-    if report::same_from(payload, &other, 0) {
+    if payload == &other[..] {
         println!(rt; ", same payload")
     } else {
         println!(rt; ", another payload")
     }
 }
 
+// As in `decode_cases`: a crate for both would stand on `plan` and be longer.
 fn plan_of(row: [u64; 32]) -> Plan {
     Plan {
         layers: rows::byte(row[0]),
@@ -279,23 +279,13 @@ fn run(rt: &impl Print, line: &[u8]) -> io::Result<()> {
         rt,
         line,
         row,
-        rows::front_values(&values, row[9]),
+        rows::front(&values, row[9]),
         rows::front(&mask, row[10]),
     )
-}
-
-fn all_cases(rt: &impl Print, text: &[u8]) -> io::Result<()> {
-    let mut at: usize = 0;
-    while at < text.len() {
-        let end = rows::line_end(text, at);
-        run(rt, &text[at..end])?;
-        at = end + 1;
-    }
-    Ok(())
 }
 
 fn main(rt: HostRuntime) -> io::Result<()> {
     let mut text = [0u8; rows::ROOM];
     let n = rows::read_full(&mut rt.reader(), &mut text);
-    all_cases(&rt, &text[..n])
+    rows::each_line(&text[..n], |line| run(&rt, line))
 }

@@ -5,7 +5,7 @@
 // the one of index 15, and the room. Scale and amplitudes are bit patterns of f32.
 #![tactic(auto)]
 
-use answer::Answer;
+use answer::Refusal;
 use report::rows;
 use std::io;
 use std::num::f32_from_bits_with_nan;
@@ -16,11 +16,6 @@ const SHOWN: [u64; 6] = [0, 1, 2, 3, 254, 255];
 // The number of a pattern.
 fn float_of(x: u64) -> f32 {
     f32_from_bits_with_nan((x % 4294967296) as u32)
-}
-
-// Whether all values from an index on are -128.
-fn values_kept(values: &[i8], from: usize) -> bool {
-    values.iter().skip(from).all(|x| *x == -128)
 }
 
 fn say_value(rt: &impl Print, x: i8) -> io::Result<()> {
@@ -49,21 +44,15 @@ fn mask_of(row: [u64; 32]) -> [u8; 17] {
     mask
 }
 
-// The first n amplitudes, or all where there are fewer.
-fn front(s: &[f32], n: u64) -> &[f32] {
-    let k = rows::at_most(s.len(), n);
-    &s[..k]
-}
-
 // Accepted some values, and whether what lies past the last stays; refused whether the buffer was kept.
-fn say(rt: &impl Print, line: &[u8], a: Answer, values: [i8; 300]) -> io::Result<()> {
-    report::say_answer(rt, line, a)?;
+fn say(rt: &impl Print, line: &[u8], a: Result<(), Refusal>, values: [i8; 300]) -> io::Result<()> {
+    report::say_answer(rt, line, a.err())?;
     let mut from = 0;
-    if answer::accepted(a) {
+    if a.is_ok() {
         say_values(rt, values)?;
         from = 256;
     }
-    report::say_kept(rt, values_kept(&values, from))
+    report::say_kept(rt, report::all_are(&values[from..], -128))
 }
 
 fn run(rt: &impl Print, line: &[u8]) -> io::Result<()> {
@@ -73,25 +62,15 @@ fn run(rt: &impl Print, line: &[u8]) -> io::Result<()> {
     let mut values = [-128i8; 300];
     let a = quantiser::values_from_marks(
         float_of(row[0]),
-        front(&amplitudes, row[1]),
+        rows::front(&amplitudes, row[1]),
         rows::front(&mask, row[7]),
-        rows::room_i8(&mut values, row[11]),
+        rows::room(&mut values, row[11]),
     );
     say(rt, line, a, values)
-}
-
-fn all_cases(rt: &impl Print, text: &[u8]) -> io::Result<()> {
-    let mut at: usize = 0;
-    while at < text.len() {
-        let end = rows::line_end(text, at);
-        run(rt, &text[at..end])?;
-        at = end + 1;
-    }
-    Ok(())
 }
 
 fn main(rt: HostRuntime) -> io::Result<()> {
     let mut text = [0u8; rows::ROOM];
     let n = rows::read_full(&mut rt.reader(), &mut text);
-    all_cases(&rt, &text[..n])
+    rows::each_line(&text[..n], |line| run(&rt, line))
 }

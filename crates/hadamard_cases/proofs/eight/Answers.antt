@@ -1,7 +1,7 @@
 -- No value lies outside the limit, so eight of them are small enough for the transform.
 use Rattle.std.proofs.Common.{arith}
-use Rattle.folds.proofs.Range.{outside-lowest}
+use Rattle.folds.proofs.Range.{outside-none}
 use Rattle.hadamard_cases.proofs.eight.Goals as goal
 
 pub hadamard8-rows-requires : goal.hadamard8-rows-requires
-hadamard8-rows-requires g c = λ i l. omega (arith, outside-lowest 32767 c.args.values i (omega (arith, c.if-first_outside-lt8.false, c.first_outside.ensures)))
+hadamard8-rows-requires g c = λ i l. omega (arith, outside-none 32767 c.args.values c.in_default.ensures i)

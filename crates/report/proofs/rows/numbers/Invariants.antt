@@ -3,4 +3,4 @@ use Rattle.std.proofs.Common.{◌≤◌}
 use Rattle.report.proofs.rows.numbers.Given as goal
 
 abbrev pub invariant-loop-c : goal.invariant-loop-c
-invariant-loop-c l = l.k ≤ 31
+invariant-loop-c l = (l.k ≤ 31) × (l.base ≤ 16)
