@@ -80,10 +80,13 @@ impl Place {
     }
 }
 
-/// The name in a line such as `pub const NAME: [u8; 256] = [`.
+/// The name in a line such as `pub const NAME: [u8; 256] = [` or `static NAME: [u8; 256] = [`.
 fn constant(line: &str) -> Option<&str> {
     let line = line.strip_prefix("pub ").unwrap_or(line);
-    Some(line.strip_prefix("const ")?.split_once(':')?.0)
+    let line = line
+        .strip_prefix("const ")
+        .or_else(|| line.strip_prefix("static "))?;
+    Some(line.split_once(':')?.0)
 }
 
 /// The name in a line such as `abbrev pub NAME : List ℕ`.
