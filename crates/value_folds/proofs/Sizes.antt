@@ -3,7 +3,9 @@ use mathlib.Core.Path.{◌≡◌, refl, sym, ap, ap₂, ◌∙◌}
 use mathlib.Core.Bool.{Bool, true, false}
 use Prim.Native.Nat.{ℕ, zero, suc, ◌+◌, ◌^◌, ◌≤◌, ◌<◌, min, max}
 use native.Mathlib.Omega.{arith}
+use borrow.Author.Tests.{ltb-true}
 use lib.IntN.{ℤ, pos, negsuc, nat_abs, neg_ℤ, sub_ℕ, ◌+ℤ◌, ◌-ℤ◌, +ℤ_idl, +ℤ_invr}
+use lib.Signed.{lt_z}
 use mir.Syntax.{w32}
 use mir.Val.{SFits}
 use Rattle.values.specs.Value.{greater, turned, free_value, known_value, gain}
@@ -74,6 +76,11 @@ gain-small (pos n) false = omega arith
 gain-small (pos n) true = omega (arith, neg_small (pos n))
 gain-small (negsuc n) false = omega arith
 gain-small (negsuc n) true = omega arith
+
+-- is the value for bit 0 where that is below 0,
+pub gain-below : (s : ℤ) → lt_z s (pos 0) ≡ true → s ≡ gain s false
+gain-below (pos n) t = absurd (omega (arith, ltb-true n 0 t))
+gain-below (negsuc n) t = refl
 
 -- and for bit 1 it is the value less than for bit 0.
 pub gain-one : (s : ℤ) → gain s true ≡ gain s false -ℤ s
