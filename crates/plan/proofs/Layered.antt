@@ -66,6 +66,12 @@ bytes-few p h = omega (arith, power-few p.layers (layers-few p h))
 pub rows_few : (p : Plan) → bad_layers p ≡ false → 16 ^ (p.layers - 1) ≤ 256
 rows_few p h = omega (arith, bytes-few p h, bytes-rows p h)
 
+-- ---- a test of all numbers below n
+pub every-all : (n : ℕ) (f : ℕ → Bool) → ((i : ℕ) → i < n → f i ≡ true) → every n f ≡ true
+unfolding every
+every-all zero f h = refl
+every-all (suc n) f h = rw (h zero (omega arith)) (every-all n (λ k. f (suc k)) (λ i l. h (suc i) (omega arith)))
+
 -- ---- the kernels of its layers
 
 all-every : (f : ℕ → Bool) (m : ℕ) (xs : List ℕ) → m ≤ length xs → list_all f (take m xs) ≡ every m (λ i. f (get_or xs i 0))
