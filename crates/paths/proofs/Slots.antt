@@ -1,5 +1,5 @@
 -- Rows of k times four places, filled place by place: entry 4 t + j is place j of the t-th four. Assumes nothing.
-use mathlib.Core.Path.{◌≡◌, ◌∙◌}
+use mathlib.Core.Path.{◌≡◌, refl, ◌∙◌}
 use mathlib.Core.Bool.{Bool, true, false}
 use mathlib.Core.List.{List, [], ◌∷◌}
 use Prim.Native.Nat.{ℕ, suc, ◌+◌, ◌*◌, ◌≤◌, ◌<◌}
@@ -103,3 +103,8 @@ turn-of-four i f out next a b c d a' b' c' d' l h n e₀ e₁ e e' = record { tw
     go : (o : Bool) → Slots 4 (i + 1) 0 (f o) (row_of next o)
     go false = rw e₀ (four (f false) (get_or out 0 []) a b c d (h.row false) e)
     go true = rw e₁ (four (f true) (get_or out 1 []) a' b' c' d' (h.row true) e')
+
+-- Four entries stored under other names.
+pub four_same : (row : List ℤ) (i : ℕ) (a b c d a' b' c' d' : ℤ) → a ≡ a' → b ≡ b' → c ≡ c' → d ≡ d'
+    → set (set (set (set row i a) (4 + i) b) (8 + i) c) (12 + i) d ≡ set (set (set (set row i a') (4 + i) b') (8 + i) c') (12 + i) d'
+four_same row i a b c d a' b' c' d' ea eb ec ed = rw (ea, eb, ec, ed) refl
