@@ -91,6 +91,10 @@ none = replicate 2 (replicate 16 0)
 pub none_within : (n : ℕ) → LanesWithin n (replicate 16 none)
 none_within n j lj l b ll = rw (get_or-replicate 16 j none [] lj, (filled_none {X = ℕ} 0 16 (λ _ _. 0)).rest l b (omega arith)) (omega arith)
 
+-- Before the first is folded.
+pub folded-none : (costs : List (List (List ℕ))) (f : ℕ → Costs) (out : List (List (List ℕ))) → length out ≡ 16 → Folded costs f out 0 out
+folded-none costs f out s = record { size = s; nodes = λ j l. absurd (omega arith); within = λ m w h. h }
+
 module _ (costs : List (List (List ℕ))) (f : ℕ → Costs) (d : Doubles costs f) (old : List (List (List ℕ))) (n : ℕ) (ln : n < 8) (place : List (List ℕ)) (e : Node f n place) where
   -- A folded place is within doubled bounds, and so are all after it is stored.
   place-within : (m : ℕ) → LanesWithin m costs → PairWithin (m + m) place
@@ -135,6 +139,9 @@ module _ (words : List ℕ) (costs : List (List (List ℕ))) (both : Bool) (old 
   -- The first n places are folded, and the others where both are asked for.
   abbrev pub KnownTo : ℕ → List (List (List ℕ)) → Type 0
   KnownTo n out = Folded costs (known_nodes (word_at words) costs) old n out × (both ≡ true → Others (known_nodes (other_at words) costs) n out)
+
+  pub known-none : length old ≡ 16 → KnownTo 0 old
+  known-none s = (folded-none costs _ old s, λ e j l. absurd (omega arith))
 
   module _ (n : ℕ) (ln : n < 8) (out : List (List (List ℕ))) (h : KnownTo n out) (place : List (List ℕ)) (e : Node (known_nodes (word_at words) costs) n place) where
     first : Folded costs (known_nodes (word_at words) costs) old (n + 1) (set out n place)
