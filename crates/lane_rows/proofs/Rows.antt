@@ -1,5 +1,7 @@
 -- One lane's entries, as the code reads them. Assumes nothing.
 use mathlib.Core.Path.{◌≡◌, sym, ap, ap₂, ◌∙◌}
+use mathlib.Core.Bool.{Bool, true, false}
+use mathlib.Core.List.{List}
 use Prim.Native.Nat.{ℕ, suc, ◌+◌, ◌-◌, ◌^◌, ◌≤◌, ◌<◌, min}
 use native.Mathlib.Decide.{dec_lt}
 use native.Mathlib.Omega.{arith}
@@ -9,8 +11,17 @@ use lib.Signed.{mag}
 use mir.Syntax.{w32}
 use mir.Val.{SFits, to_z, of_z}
 use mir.Facts.{to_z-of_z, to_z_pos}
-use Rattle.folds.specs.Rows.{least_to}
+use Rattle.folds.specs.Rows.{cell, select, least_to}
 use Rattle.values.proofs.Integers.{sub-sub, sub-eq}
+
+-- The one of two entries that a bit picks.
+pub picked : (pair : List (List ℕ)) (l x y : ℕ) (c b : Bool) {r : ℕ} → c ≡ b → x ≡ cell 0 pair l false → y ≡ cell 0 pair l true → r ≡ select x y c
+    → r ≡ cell 0 pair l b
+picked pair l x y c b e ex ey er = er ∙ ap (select x y) e ∙ go b
+  where
+    go : (b : Bool) → select x y b ≡ cell 0 pair l b
+    go true = ey
+    go false = ex
 
 -- ---- the difference of two numbers of sixteen bits
 
