@@ -4,12 +4,21 @@ use mathlib.Core.Bool.{Bool, true, false}
 use mathlib.Core.List.{[], ◌∷◌}
 use Prim.Native.Nat.{ℕ, zero, suc, ◌+◌, ◌*◌, ◌<◌}
 use native.Mathlib.Omega.{arith}
+use mir.Val.{bool_byte}
 use Rattle.base.specs.Bit.{bit, digit}
 use Rattle.bits.specs.Packed.{bits}
 
 digit-small : (b : Bool) → digit b < 2
 digit-small false = omega arith
 digit-small true = omega arith
+
+-- A bit as a byte counts it.
+pub digit-is : (a b : Bool) → a ≡ b → (bool_byte a < 2) × (bool_byte a ≡ digit b)
+digit-is a b e = let f : bool_byte a ≡ digit b = go a ∙ ap digit e in (rw f (digit-small b), f)
+  where
+    go : (a : Bool) → bool_byte a ≡ digit a
+    go false = refl
+    go true = refl
 
 -- Four bits as a number.
 abbrev four : Bool → Bool → Bool → Bool → ℕ

@@ -1,6 +1,6 @@
 -- Sums of rows and of planes, one summand after another. Assumes nothing.
 use mathlib.Core.Path.{◌≡◌, sym, ap, ap₂, ◌∙◌}
-use mathlib.Core.Bool.{Bool, false, ◌&&◌, and_comm}
+use mathlib.Core.Bool.{Bool, true, false, ◌&&◌, and_comm}
 use mathlib.Core.List.{List, ◌∷◌}
 use Prim.Native.Nat.{ℕ, suc, ◌+◌, ◌-◌, ◌/◌, ◌^◌, ◌<◌}
 use native.Mathlib.Numerals.{add-one}
@@ -16,6 +16,9 @@ use Rattle.lane.specs.Lanes.{lane_bit, word_at}
 use Rattle.lane_words.specs.Words.{window_bit}
 
 -- ---- what is added where a test holds
+
+pub kept : (c : Bool) (x l : ℕ) → c ≡ true → lane_bit x l ≡ (c && lane_bit x l)
+kept c x l e = ap (λ b. b && lane_bit x l) (sym e)
 
 pub dropped : (c : Bool) (x l : ℕ) → c ≡ false → lane_bit 0 l ≡ (c && lane_bit x l)
 dropped c x l e = zero-at 16 l ∙ ap (λ b. b && lane_bit x l) (sym e)
