@@ -1,13 +1,24 @@
--- One turn of the loop that freezes the records. Assumes nothing.
-use mathlib.Core.Path.{◌≡◌, ◌∙◌}
+-- A candidate that is read from a record, and one turn of the loop that freezes the records. Assumes nothing.
+use mathlib.Core.Path.{◌≡◌, ap, ◌∙◌}
 use mathlib.Core.Logic.{◌≢◌}
-use mathlib.Core.List.{List}
-use Prim.Native.Nat.{ℕ, ◌+◌, ◌≤◌, ◌<◌}
+use mathlib.Core.Bool.{Bool}
+use mathlib.Core.List.{List, [], ◌∷◌, ◌++◌}
+use Prim.Native.Nat.{ℕ, ◌+◌, ◌/◌, ◌≤◌, ◌<◌}
 use native.Mathlib.Decide.{dec_lt}
 use native.Mathlib.Omega.{arith}
-use Rattle.path.specs.Path.{path_at}
+use lib.ListN.{length}
+use Rattle.base.specs.Bit.{odd}
+use Rattle.bits.specs.Packed.{unpack}
+use Rattle.path.specs.Path.{HasSymbols, path_at}
 use Rattle.path.specs.declared.Path.{Path}
-use Rattle.list_phase.specs.Next.{Frozen}
+use Rattle.list_phase.specs.Next.{Candidate, Frozen}
+
+-- A path that is read from a record, with a symbol and then a penalty, is a candidate.
+pub grown : (at c penalty : ℕ) (s : List ℕ) (read longer path : Path) → read ≡ path_at (c / 2) s
+    → ((p : List Bool) → length p ≡ at → HasSymbols p read → HasSymbols (p ++ (odd c ∷ [])) longer)
+    → path.symbols ≡ longer.symbols → path.penalty ≡ penalty → Candidate at c penalty s path
+grown at c penalty s read longer path e g f h =
+    ((λ p l q. ap unpack f ∙ g p l (ap (λ (r : Path). unpack r.symbols) e ∙ q)), h)
 
 -- A path that is read from a record, after unmarked phases.
 pub frozen-read : (penalty : ℕ) (old read path new : Path) → read ≡ old → Frozen penalty read path → new ≡ path → Frozen penalty old new
