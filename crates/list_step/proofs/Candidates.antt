@@ -5,8 +5,8 @@ use mathlib.Core.List.{List, [], ◌∷◌, ◌++◌, map}
 use Prim.Native.Nat.{ℕ, zero, suc, ◌+◌, ◌*◌, ◌/◌, ◌≤◌, ◌<◌, min}
 use native.Mathlib.Decide.{dec_le}
 use native.Mathlib.Omega.{arith}
-use lib.ListN.{length, take, get_or, length-take, length-map}
-use lib.Seq.{get_or-take}
+use lib.ListN.{length, take, get_or, set, length-take, length-map, length-set}
+use lib.Seq.{get_or-set_same, get_or-set_other, get_or-take}
 use Rattle.base.specs.Bit.{digit, odd}
 use Rattle.bits.proofs.Packed.{digit-odd}
 use Rattle.folds.specs.Rows.{cell}
@@ -31,6 +31,10 @@ pub unmarked-at : (penalty : List Bool → ℕ) (L : ℕ) (ps : List (List Bool)
 unfolding phase
 unmarked-at penalty L ps j l = map_at (λ p. p ++ (false ∷ [])) ps j [] [] l
 
+digit-le : (b : Bool) → digit b ≤ 1
+digit-le false = omega arith
+digit-le true = omega arith
+
 -- Every number is a path's candidate with one of the two symbols.
 whole : (c : ℕ) → 2 * (c / 2) + digit (odd c) ≡ c
 whole c = omega (arith, digit-odd c)
@@ -38,6 +42,25 @@ whole c = omega (arith, digit-odd c)
 -- What stands in an order of sixteen.
 pub inside : (pens o : List ℕ) → o ≡ in_order (λ c. get_or pens c 0) 16 → (j : ℕ) → j < 16 → get_or o j 0 < 16
 inside pens o e j l = subst⁻¹ (λ (o : List ℕ). get_or o j 0 < 16) e (order_below (λ c. get_or pens c 0) 16 j l)
+
+-- The two candidates of one path more.
+pub next-penalties : (pair : List (List ℕ)) (i : ℕ) (out : List ℕ) (x y : ℕ) → length out ≡ 16 → i < 8 → x ≡ cell 0 pair i false → y ≡ cell 0 pair i true
+    → Penalties pair i out → Penalties pair (i + 1) (set (set out (2 * i) x) (2 * i + 1) y)
+next-penalties pair i out x y e l ex ey h = (λ j b lj. at j b (dec_le (suc j) i) lj, λ c lc c16. other c (λ q. omega arith) (λ q. omega arith) ∙ h.1 c (omega arith) c16)
+  where
+    other : (c : ℕ) → (c ≡ 2 * i → ⊥) → (c ≡ 2 * i + 1 → ⊥) → get_or (set (set out (2 * i) x) (2 * i + 1) y) c 0 ≡ get_or out c 0
+    other c n m = get_or-set_other (set out (2 * i) x) (2 * i + 1) c y 0 m ∙ get_or-set_other out (2 * i) c x 0 n
+
+    last : (b : Bool) → get_or (set (set out (2 * i) x) (2 * i + 1) y) (2 * i + digit b) 0 ≡ cell 0 pair i b
+    last false =
+        let z : 2 * i + 0 ≡ 2 * i = omega arith in
+        ap (λ k. get_or (set (set out (2 * i) x) (2 * i + 1) y) k 0) z
+        ∙ get_or-set_other (set out (2 * i) x) (2 * i + 1) (2 * i) y 0 (λ q. omega arith) ∙ get_or-set_same out (2 * i) x 0 (omega arith) ∙ ex
+    last true = get_or-set_same (set out (2 * i) x) (2 * i + 1) y 0 (omega (arith, length-set out (2 * i) x)) ∙ ey
+
+    at : (j : ℕ) (b : Bool) → Dec (j < i) → j < i + 1 → get_or (set (set out (2 * i) x) (2 * i + 1) y) (2 * j + digit b) 0 ≡ cell 0 pair j b
+    at j b (yes q) lj = let d = digit-le b in other (2 * j + digit b) (λ e. omega arith) (λ e. omega arith) ∙ h.0 j b q
+    at j b (no q) lj = let q : j ≡ i = omega arith in ap (λ k. get_or (set (set out (2 * i) x) (2 * i + 1) y) (2 * k + digit b) 0) q ∙ last b ∙ ap (λ k. cell 0 pair k b) (sym q)
 
 module _ (pair : List (List ℕ)) (n : ℕ) (pens : List ℕ) (h : Penalties pair n pens) (ln : n ≤ 8) where
   -- What a candidate that there is has.
