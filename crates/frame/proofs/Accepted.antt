@@ -11,13 +11,13 @@ use Rattle.bits.specs.Packed.{unpack, pack}
 use Rattle.payload.specs.Payload.{ones, gather, frozen_one}
 use Rattle.bits.proofs.Packed.{length-pack}
 use Rattle.answer.specs.Verdict.{Verdict, done, refused, is_accepted, Check, condition_at, settle, after}
-use Rattle.answer.proofs.Settle.{None, none_of, settle-none, settle-append}
+use Rattle.answer.proofs.Settle.{None, none_of, settle-none, settle-append, settle-stopped, after-refused}
 use Rattle.mask.specs.Mask.{marked, bad_mask, payload_bytes}
 use Rattle.mask.proofs.Mask.{bytes-marked, bytes-eighth}
 use Rattle.plan.specs.declared.Plan.{Plan}
 use Rattle.plan.specs.Plan.{bad_layers, bad_kernels, symbol_count, byte_count}
 use Rattle.frame_checks.specs.Checks.{encode_checks, request_checks}
-use Rattle.frame.specs.Jobs.{frame_symbols, frozen_of, undo_checks, undone_payload, frame_undo}
+use Rattle.frame.specs.Jobs.{encoded_frame, frame_encode, frame_symbols, frozen_of, undo_checks, undone_payload, frame_undo}
 
 -- ---- frame encode
 
@@ -50,6 +50,16 @@ encode-passes p mask payload_length room n =
 pub encode-accepted : (p : Plan) (mask : List ℕ) (payload_length room : ℕ) → is_accepted (settle (encode_checks p mask payload_length room) done) ≡ true
     → EncodeAccepted p mask payload_length room
 encode-accepted p mask payload_length room ok = encode-passes p mask payload_length room (none_of (encode_checks p mask payload_length room) done ok)
+
+-- An accepted job leaves the word and what lies past it.
+pub encode-done : (p : Plan) (mask payload out last : List ℕ) → is_accepted (settle (encode_checks p mask (length payload) (length out)) done) ≡ true
+    → last ≡ encoded_frame p mask payload ++ drop (byte_count p) out → frame_encode p mask payload out ≡ (done, last)
+unfolding frame_encode encoded_frame
+encode-done p mask payload out last ok l =
+    let cs = encode_checks p mask (length payload) (length out) in
+    let new = encoded_frame p mask payload in
+    ap (λ (x : Verdict). (x, after x out new)) (settle-none cs done (none_of cs done ok))
+    ∙ ap (λ (l : List ℕ). (done, l)) (ap (λ n. new ++ drop n out) (length-pack (byte_count p) _) ∙ sym l)
 
 -- ---- frame undo
 
@@ -87,6 +97,15 @@ module _ (p : Plan) (mask word out : List ℕ) where
 
   last-check : Check
   last-check = condition_at 9 (frozen_of p mask word) (ltb (frozen_of p mask word) (symbol_count p))
+
+  -- A request that is refused leaves its buffer.
+  pub undo-refused : (v : Verdict) → v ≡ settle (request_checks p mask (length word) (length out)) done → is_accepted v ≡ false
+      → frame_undo p mask word out ≡ (v, out)
+  unfolding frame_undo undo_checks request last-check
+  undo-refused v e r =
+      let all : settle (undo_checks p mask word (length out)) done ≡ v =
+      settle-append request (last-check ∷ []) done ∙ settle-stopped request done (settle (last-check ∷ []) done) refl (ap is_accepted (sym e) ∙ r) ∙ sym e in
+      ap (λ (x : Verdict). (x, after x out (undone_payload p mask word))) all ∙ ap (λ (l : List ℕ). (v, l)) (after-refused v out (undone_payload p mask word) r)
 
   module _ (ok : is_accepted (settle (request_checks p mask (length word) (length out)) done) ≡ true)
       (u : List Bool) (is-u : u ≡ frame_symbols p word) (phase : ℕ) (is-phase : phase ≡ frozen_one (unpack mask) u) where
