@@ -11,7 +11,7 @@ pub free_eight-halves-requires : goal.free_eight-halves-requires
 free_eight-halves-requires c = λ j lj l b ll. omega (arith, c.requires.1 j lj l b ll)
 
 pub loop-s-init : goal.loop-s-init
-loop-s-init c = let r = c in no-phase r.args.kernel r.args.costs.now r.args.planes.now _ _ refl
+loop-s-init c = let r = c in no-phase r.args.kernel r.args.costs.now r.args.planes.now _ _ refl refl
 
 pub step-requires : goal.step-requires
 step-requires c =
@@ -30,7 +30,7 @@ loop-s-preserved c =
     let z = c in
     let t = c.step in
     phase-next z.args.kernel z.args.costs.now z.args.planes.now l.s (search rules) l.rows l.out l.invariant
-    t.new.rows t.ensures.held t.result t.ensures.scores
+    t.new.rows (search rules) t.ensures.held t.result t.ensures.scores
 
 pub returns : goal.returns
 returns c = λ s l ls ll. c.loop-s.invariant.scores-so s (omega arith) l ll
