@@ -1,8 +1,8 @@
 // The C interface: each job under its C name, answering with a number, a place and, for some, a word or a penalty.
 #![tactic(auto)]
 
-ghost use Rattle.std.specs.Prelude.{◌≡◌};
-ghost use Rattle.answer.specs.Verdict.{verdict, word_verdict, penalty_verdict};
+ghost use Rattle.std.specs.Prelude.{◌≡◌, eqb};
+ghost use Rattle.answer.specs.Verdict.{verdict, word_verdict, penalty_verdict, is_accepted};
 ghost use Rattle.kernel.specs.Jobs.{kernel_encode, kernel_undo};
 ghost use Rattle.part.specs.Part.{part_length};
 ghost use Rattle.order.specs.Jobs.{information_mask};
@@ -44,9 +44,10 @@ pub struct PenaltyOutcome {
     pub penalty: u32,
 }
 
-/// The outcome of a result, whatever it holds.
+/// The outcome of a result, whatever it holds. Its number is 0 just where the request was accepted.
 pub fn outcome_of<T: Copy>(a: Result<T, Refusal>) -> Outcome
-    ensures { result ≡ outcome_of (verdict a) }
+    ensures outcome { result ≡ outcome_of (verdict a) }
+    ensures accepted { eqb result.number 0 ≡ is_accepted (verdict a) }
 {
     let (number, place) = match a {
         Ok(_) => (0, 0),
@@ -55,9 +56,10 @@ pub fn outcome_of<T: Copy>(a: Result<T, Refusal>) -> Outcome
     Outcome { number, place }
 }
 
-/// The outcome of a result, with its word.
+/// The outcome of a result, with its word; the number is as above.
 pub fn word_outcome_of(a: Result<u16, Refusal>) -> WordOutcome
-    ensures { result ≡ word_outcome_of (word_verdict a) }
+    ensures outcome { result ≡ word_outcome_of (word_verdict a) }
+    ensures accepted { eqb result.number 0 ≡ is_accepted (word_verdict a) }
 {
     let o = outcome_of(a);
     WordOutcome {
@@ -67,9 +69,10 @@ pub fn word_outcome_of(a: Result<u16, Refusal>) -> WordOutcome
     }
 }
 
-/// The outcome of a result, with its penalty.
+/// The outcome of a result, with its penalty; the number is as above.
 pub fn penalty_outcome_of(a: Result<u32, Refusal>) -> PenaltyOutcome
-    ensures { result ≡ penalty_outcome_of (penalty_verdict a) }
+    ensures outcome { result ≡ penalty_outcome_of (penalty_verdict a) }
+    ensures accepted { eqb result.number 0 ≡ is_accepted (penalty_verdict a) }
 {
     let o = outcome_of(a);
     PenaltyOutcome {
