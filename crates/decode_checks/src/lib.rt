@@ -30,7 +30,12 @@ pub fn frame_outside(values: &[i8]) -> Option<usize>
     if !some_outside(values) {
         return None;
     }
-    values.iter().position(|&y| 127 < y.unsigned_abs())
+    for (i, y) in values.iter().enumerate() {
+        if *y == -128 {
+            return Some(i);
+        }
+    }
+    None
 }
 
 /// The checks of frame follow, in checking order.
