@@ -18,7 +18,7 @@ fn sizes<const N: usize>(values: &[i32; N]) -> i32
 {
     let mut sum: u32 = 0;
     for x in values {
-        sum += x.unsigned_abs();
+        sum += folds::size(*x);
     }
     sum as i32
 }

@@ -9,6 +9,6 @@ loop-x-init g c = total-none 4194304 _
 pub loop-x-preserved : goal.loop-x-preserved
 loop-x-preserved g c =
     let k = c.loop-x in
-    let e : c.unsigned_abs-sum.result ≡ nat_abs (get_or c.args.values.now k.x-index (pos 0)) = search rules in
-    let l : c.unsigned_abs-sum.result ≤ 4194304 = rw e (c.requires.1 k.x-index (search rules)) in
-    total-next 4194304 k.x-index _ k.sum c.unsigned_abs-sum.result k.invariant e l
+    let e : c.size-sum.result ≡ nat_abs (get_or c.args.values.now k.x-index (pos 0)) = search rules in
+    let l : c.size-sum.result ≤ 4194304 = rw e (c.requires.1 k.x-index (search rules)) in
+    total-next 4194304 k.x-index _ k.sum c.size-sum.result k.invariant e l
