@@ -44,12 +44,9 @@ pub fn line_end(text: &[u8], from: usize) -> usize
     ensures low { from ≤ result }
     ensures high { result ≤ length text.now }
 {
-    for (i, c) in text.iter().enumerate().skip(from) {
-        if *c == b'\n' {
-            return i;
-        }
-    }
-    text.len()
+    // On the rest of the text: a `skip` would step over what lies before it, at each line anew.
+    let rest = &text[from..];
+    from + rest.iter().position(|c| *c == b'\n').unwrap_or(rest.len())
 }
 
 /// Runs each case, a line of the input, in order. It ends after the last line, and hands on the first failure.
