@@ -1,7 +1,7 @@
 -- Places of sixteen lanes that are replaced one after the other. Assumes nothing.
 use mathlib.Core.Path.{◌≡◌, refl, ap, subst, subst⁻¹, ◌∙◌}
-use mathlib.Core.Bool.{Bool}
-use mathlib.Core.List.{List, []}
+use mathlib.Core.Bool.{Bool, true, false}
+use mathlib.Core.List.{List, [], ◌∷◌}
 use Prim.Native.Nat.{ℕ, ◌+◌, ◌-◌, ◌≤◌, ◌<◌}
 use native.Mathlib.Decide.{dec_lt}
 use native.Mathlib.Omega.{arith}
@@ -16,6 +16,11 @@ use Rattle.lane_moves.specs.Moves.{Twice, LaneRow}
 -- Of what a place was and is: R holds of the two rows of each bit.
 abbrev pub Both : (Bool → List ℕ → List ℕ → Type 0) → List (List ℕ) → List (List ℕ) → Type 0
 Both R old place = (b : Bool) → R b (row_of old b) (row_of place b)
+
+pub both-rows : (R : Bool → List ℕ → List ℕ → Type 0) (old : List (List ℕ)) (zero one : List ℕ) → R false (row_of old false) zero → R true (row_of old true) one
+    → Both R old (zero ∷ one ∷ [])
+both-rows R old zero one p q false = p
+both-rows R old zero one p q true = q
 
 -- The first n places are what R says of those that stood there, and the others are as they were.
 pub record Replaced (R : ℕ → Bool → List ℕ → List ℕ → Type 0) (old : List (List (List ℕ))) (n : ℕ) (out : List (List (List ℕ))) : Type 0 where
@@ -79,6 +84,10 @@ twice-within m f row e w l ll = go (dec_lt l 8)
 -- Both rows of a place have what the pairs of eight lanes have there,
 abbrev pub LanePlace : List (List (List ℕ)) → ℕ → List (List ℕ) → Type 0
 LanePlace pairs j place = (b : Bool) → LaneRow pairs (digit b) j (row_of place b)
+
+pub lane_place : (pairs : List (List (List ℕ))) (j : ℕ) (zero one : List ℕ) → LaneRow pairs 0 j zero → LaneRow pairs 1 j one → LanePlace pairs j (zero ∷ one ∷ [])
+lane_place pairs j zero one p q false = p
+lane_place pairs j zero one p q true = q
 
 -- and no more than these.
 pub lane-within : (m : ℕ) (pairs : List (List (List ℕ))) (j : ℕ) → j < 16 → (place : List (List ℕ)) → LanePlace pairs j place

@@ -2,10 +2,15 @@
 use mathlib.Core.Path.{◌≡◌, sym, ap, ◌∙◌}
 use mathlib.Core.Bool.{Bool}
 use mathlib.Core.List.{List}
-use Prim.Native.Nat.{ℕ, ◌+◌, ◌*◌, ◌<◌}
+use Prim.Native.Nat.{ℕ, ◌+◌, ◌*◌, ◌^◌, ◌<◌}
 use native.Mathlib.Nat.{le_trans}
-use lib.IntN.{ℤ, pos}
+use native.Mathlib.Omega.{arith}
+use lib.IntN.{ℤ, pos, negsuc, nat_abs}
 use lib.ListN.{length, get_or}
+use lib.Signed.{mag}
+use mir.Facts.{to_z-of_z, sfits_widen}
+use mir.Syntax.{w16, w32}
+use mir.Val.{Fits, SFits, to_z, of_z}
 use Rattle.base.proofs.List.{tabulate-at}
 use Rattle.polar.specs.Code.{pay, channel}
 use Rattle.polar.proofs.Values.{pay-size}
@@ -13,6 +18,27 @@ use Rattle.folds.specs.Range.{first_outside}
 use Rattle.folds.proofs.Range.{outside-none}
 use Rattle.lane.specs.Lanes.{lane_costs, LanesWithin}
 use Rattle.side_follow.specs.Follow.{lane_values}
+
+size_fits : (y : ℤ) → mag y < 2 ^ 15 → nat_abs y < 2 ^ 16
+size_fits (pos n) h = omega arith
+size_fits (negsuc n) h = omega arith
+
+module _ (y : ℤ) (f : SFits w16 y) where
+  -- A value read at sixteen bits is the value,
+  pub read_is : to_z w16 (of_z w16 y) ≡ y
+  read_is = to_z-of_z f
+
+  -- widened it fits,
+  pub wide_fits : SFits w32 (to_z w16 (of_z w16 y))
+  wide_fits = rw read_is (sfits_widen tt f)
+
+  -- is the value still,
+  pub wide_is : to_z w32 (of_z w32 (to_z w16 (of_z w16 y))) ≡ y
+  wide_is = to_z-of_z wide_fits ∙ read_is
+
+  -- and its size fits sixteen bits again.
+  pub narrow : (n : ℕ) → n ≡ nat_abs (to_z w32 (of_z w32 (to_z w16 (of_z w16 y)))) → Fits w16 n
+  narrow n e = record { fits = rw (e, wide_is) (size_fits y f.sfits) }
 
 -- What each place pays, in each lane.
 abbrev pub PaysLanes : List ℤ → List (List (List ℕ)) → Type 0

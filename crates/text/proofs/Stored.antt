@@ -3,9 +3,10 @@ use mathlib.Core.Path.{◌≡◌, sym, ap, ap₂, ◌∙◌}
 use mathlib.Core.List.{List, [], ◌∷◌, ◌++◌, append_assoc, append-nil}
 use Prim.Native.Nat.{ℕ, suc, ◌+◌, ◌≤◌, ◌<◌}
 use native.Mathlib.Nat.{add-zero}
+use native.Mathlib.Numerals.{add-one}
 use native.Mathlib.Omega.{arith}
 use lib.ListN.{length, get_or, take, drop, set, length-append, length-drop, take-append-drop}
-use lib.Seq.{length-take-le, drop-cons, append_snoc, set_at, take_at, drop_at, drop-drop}
+use lib.Seq.{length-take-le, take-suc, drop-cons, append_snoc, set_at, take_at, drop_at, drop-drop}
 use Rattle.text.specs.Put.{stored, Put}
 
 -- What stands before the end of the bytes that were put.
@@ -70,3 +71,14 @@ pub put_first : (xs ys : List ℕ) (e : ℕ) (old new : List ℕ) → ys ≡ xs 
 put_first xs ys e old new q p =
     let k : e ≡ length xs = omega (arith, p.0) in
     (k ∙ ap length (sym q), p.1 ∙ ap₂ (λ (zs : List ℕ) n. zs ++ drop n old) (sym q) (sym p.0))
+
+-- A loop has put i of the bytes, and puts the next.
+pub put_next : (bytes : List ℕ) (at end i : ℕ) (old out : List ℕ) → i < length bytes → at + length bytes ≤ length old → end ≡ at + i
+    → out ≡ stored (take i bytes) at old → set out end (get_or bytes i 0) ≡ stored (take (i + 1) bytes) at old
+put_next bytes at end i old out l room e s =
+    let b : ℕ = get_or bytes i 0 in
+    let n : length (take i bytes) ≡ i = length-take-le i bytes (omega arith) in
+    let k : end ≡ at + length (take i bytes) = omega arith in
+    ap₂ (λ (o : List ℕ) m. set o m b) s k
+    ∙ stored_next (take i bytes) at old b (omega arith)
+    ∙ ap (λ (t : List ℕ). stored t at old) (sym (ap (λ m. take m bytes) (add-one i) ∙ take-suc bytes i 0 l))
