@@ -37,7 +37,9 @@ pub fn run(kernel: usize, costs: &[[[u16; 16]; 2]; 16], planes: &[u16; 16]) -> [
 fn first_outside(values: &[i16]) -> Option<usize>
     ensures { FoundBelow (length values.now) (first_outside 2047 values.now) result }
 {
-    values.iter().position(|y| 2047 < y.unsigned_abs())
+    values
+        .iter()
+        .position(|&y| 2047 < folds::size(i32::from(y)))
 }
 
 // What place t pays, by bit and lane.
@@ -48,7 +50,7 @@ fn place_costs(values: &[i16], t: usize) -> [[u16; 16]; 2]
     let mut out = [[0u16; 16]; 2];
     for l in 0..16 {
         let y = values[16 * t + l];
-        let paid = y.unsigned_abs();
+        let paid = folds::size(i32::from(y)) as u16;
         if y < 0 {
             out[0][l] = paid;
         } else {
