@@ -33,11 +33,10 @@
  * The library is built for x86-64 Linux, because that is what the kit that
  * proves it compiles for. Firmware on another processor needs the kit's back
  * end for that processor. On x86-64 frame follow and frame decode take at most
- * 5.5 KiB of stack for one layer, 12.5 KiB for two and 63.6 KiB for three, frame
- * encode and frame undo 3.6 KiB, list decode 27.0 KiB, kernel follow 4.5 KiB, and
- * 2.6 KiB by the Hadamard engine, 2.2 KiB of each being the start of a thread
- * (measured for one kernel in all layers, with an earlier version of the kit;
- * not proved, and not measured again since; see docs/BENCH.md).
+ * 5.6 KiB of stack for one layer, 16.4 KiB for two and 66.5 KiB for three, frame
+ * encode and frame undo 3.7 KiB, list decode 31.2 KiB, kernel follow 3.4 KiB, and
+ * 2.8 KiB by the Hadamard engine, 2.2 KiB of each being the start of a thread
+ * (measured for one kernel in all layers, not proved; see docs/BENCH.md).
  *
  * What the caller must keep, and nothing proves or looks at:
  *
