@@ -14,8 +14,7 @@ use Rattle.base.specs.Bit.{bit}
 use Rattle.base.proofs.Bool.{or-eq-false}
 use Rattle.bits.specs.Packed.{unpack}
 use Rattle.bits.proofs.Packed.{length-pack}
-use Rattle.answer.specs.Verdict.{Verdict, done, penalty, refusal, is_accepted, Check, settle, after}
-use Rattle.answer.specs.declared.Refusal.{Refusal}
+use Rattle.answer.specs.Verdict.{Verdict, done, penalty, is_accepted, Check, settle, after}
 use Rattle.answer.proofs.Settle.{None, none_of, settle-none, settle-stopped, after-refused}
 use Rattle.mask.specs.Mask.{marked, payload_bytes}
 use Rattle.mask.proofs.Mask.{bytes-eighth, bytes-marked}
@@ -33,7 +32,6 @@ use Rattle.plan.specs.Pairs.{frame_code}
 use Rattle.path.specs.Path.{HasSymbols, path_at}
 use Rattle.path.specs.declared.Path.{Path}
 use Rattle.decode_checks.specs.Checks.{value_check}
-use Rattle.decode_checks.proofs.Refused.{refusal-refused}
 use Rattle.list_checks.specs.Checks.{list_decode_checks}
 use Rattle.list_run.specs.Run.{frame_paths, ListRun}
 use Rattle.agreeing.specs.Agreeing.{payload_of, agrees_at}
@@ -118,15 +116,13 @@ module _ (p : Plan) (L : ℕ) (values : List ℤ) (mask old_scratch old_payload 
   Decoded v scratch payload = list_decode p L values mask old_scratch old_payload ≡ (v, scratch, payload)
 
   -- A job that is refused by a check leaves its buffers.
-  pub list-refused : (e : Refusal) → refusal e ≡ settle checks done → Decoded (refusal e) old_scratch old_payload
+  pub list-refused : (v : Verdict) → v ≡ settle checks done → is_accepted v ≡ false → Decoded v old_scratch old_payload
   unfolding list_decode
-  list-refused e s =
-      let v = refusal e in
-      let r = refusal-refused e in
+  list-refused v e r =
       let zeros : List ℕ = replicate 8192 0 in
       let new = first_payload mask agreeing in
-      ap (λ (x : Verdict). (x, after (settle checks done) old_scratch zeros, after x old_payload new)) (settle-stopped checks done (verdict_of total agreeing) refl (ap is_accepted (sym s) ∙ r))
-      ∙ ap (λ (x : Verdict). (x, after x old_scratch zeros, after x old_payload new)) (sym s)
+      ap (λ (x : Verdict). (x, after (settle checks done) old_scratch zeros, after x old_payload new)) (settle-stopped checks done (verdict_of total agreeing) refl (ap is_accepted (sym e) ∙ r))
+      ∙ ap (λ (x : Verdict). (x, after x old_scratch zeros, after x old_payload new)) (sym e)
       ∙ ap₂ (λ (x y : List ℕ). (v, x, y)) (after-refused v old_scratch zeros r) (after-refused v old_payload new r)
 
   module _ (ok : is_accepted (settle checks done) ≡ true) where

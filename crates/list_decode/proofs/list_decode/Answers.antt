@@ -3,7 +3,8 @@ use mathlib.Core.Path.{ap, sym, ◌∙◌}
 use Prim.Native.Nat.{◌*◌}
 use native.Mathlib.Omega.{arith}
 use borrow.Author.Rules.{rules}
-use Rattle.answer.specs.Verdict.{penalty_verdict, is_accepted}
+use Rattle.answer.specs.Verdict.{refusal, penalty_verdict, is_accepted}
+use Rattle.decode_checks.proofs.Refused.{refusal-refused}
 use Rattle.mask.proofs.Mask.{bytes_le}
 use Rattle.list_decode.proofs.Accepted.{list-refused, list-accepted}
 use Rattle.list_decode.proofs.Found.{found_below, list_found}
@@ -13,7 +14,7 @@ pub returns-in_err-list_check : goal.returns-in_err-list_check
 returns-in_err-list_check c =
     let a = c.args in
     let e = c.in_err-list_check in
-    search (rules, list-refused a.plan a.list a.values.now a.mask.now a.scratch.now a.payload.now e.field-0.0 e.ensures)
+    search (rules, list-refused a.plan a.list a.values.now a.mask.now a.scratch.now a.payload.now (refusal e.field-0.0) e.ensures (refusal-refused e.field-0.0))
 
 pub rows_of-requires : goal.rows_of-requires
 rows_of-requires c =
