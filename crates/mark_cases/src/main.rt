@@ -47,12 +47,14 @@ fn mask_of(row: [u64; 32]) -> [u8; 17] {
 // Accepted some values, and whether what lies past the last stays; refused whether the buffer was kept.
 fn say(rt: &impl Print, line: &[u8], a: Result<(), Refusal>, values: [i8; 300]) -> io::Result<()> {
     report::say_answer(rt, line, a.err())?;
-    let mut from = 0;
-    if a.is_ok() {
+    // Two calls: where the compiler sees how many values there are, it looks at several a turn.
+    let kept = if a.is_ok() {
         say_values(rt, values)?;
-        from = 256;
-    }
-    report::say_kept(rt, report::all_are(&values[from..], -128))
+        report::all_are(&values[256..], -128)
+    } else {
+        report::all_are(&values, -128)
+    };
+    report::say_kept(rt, kept)
 }
 
 fn run(rt: &impl Print, line: &[u8]) -> io::Result<()> {
